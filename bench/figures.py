@@ -1,0 +1,184 @@
+"""Instructions and time of `puma once`, for short and long heads, whole and byte by byte, and for
+heads with few and with many fields, with and without the environment.
+
+Instructions are counted by callgrind and are repeatable: over the whole run of the program from its
+start, or of one function with all that it calls. Times are those of this machine, from starting the
+program until it has ended.
+"""
+
+import os
+import platform
+import re
+import shutil
+import socket
+import statistics
+import subprocess
+import sys
+import tempfile
+import threading
+import time
+
+TOP = os.path.dirname(os.path.dirname(os.path.abspath(__file__)))
+PUMA = os.path.join(TOP, "bin", "puma")
+PROGRAM = os.path.join(TOP, "crates", "puma_cli", "out", "puma_cli")
+STACK = os.path.join(TOP, "examples", "hello.stack")
+
+GET = b"GET / HTTP/1.1\r\nHost: a\r\n\r\n"
+KIB = 1024
+WAYS = (("whole, from a file", False), ("byte by byte", True))
+RUNS = 40
+SECONDS = 5
+
+
+def long_head(size):
+    """A request of so many bytes, by its target."""
+    return GET.replace(b"/", b"/" + b"a" * (size - len(GET)), 1)
+
+
+def feed(end, text):
+    try:
+        for at in range(len(text)):
+            end.send(text[at:at + 1])
+    except OSError:
+        pass  # the program has read enough
+    finally:
+        end.close()
+
+
+def run(command, text, cut):
+    """Runs the program on this text and answers the seconds and what it wrote."""
+    if cut:
+        # Each send to such a socket is one read of the program.
+        far, near = socket.socketpair(socket.AF_UNIX, socket.SOCK_SEQPACKET)
+        feeder = threading.Thread(target=feed, args=(far, text))
+    else:
+        near = tempfile.TemporaryFile()
+        near.write(text)
+        near.seek(0)
+        feeder = None
+    begun = time.perf_counter()
+    child = subprocess.Popen(command, stdin=near, stdout=subprocess.PIPE, stderr=subprocess.DEVNULL)
+    near.close()
+    if feeder:
+        feeder.start()
+    out = child.stdout.read()
+    child.wait()
+    seconds = time.perf_counter() - begun
+    child.stdout.close()
+    if feeder:
+        feeder.join()
+    if child.returncode != 0 or (text and not out.startswith(b"HTTP/1.1 200 OK\r\n")):
+        sys.exit(f"the program answered with status {child.returncode}: {out[:80]!r}")
+    return seconds
+
+
+def times(command, text, cut):
+    """The milliseconds of many runs, of fewer where they take long."""
+    taken, end = [], time.perf_counter() + SECONDS
+    while len(taken) < RUNS and (len(taken) < 3 or time.perf_counter() < end):
+        taken.append(run(command, text, cut) * 1000)
+    return taken
+
+
+def instructions(text, cut, function=None):
+    """Those of the whole run, or of one function by its name and of all that it calls."""
+    with tempfile.TemporaryDirectory() as folder:
+        counted = os.path.join(folder, "counted")
+        more = [f"--toggle-collect={function}"] if function else []
+        run(["valgrind", "--tool=callgrind", *more, f"--callgrind-out-file={counted}", PROGRAM, "once", STACK], text, cut)
+        with open(counted) as file:
+            return int(re.search(r"^(?:summary|totals):\s*(\d+)", file.read(), re.M).group(1))
+
+
+def request(fields):
+    return b"\r\n".join([b"GET /index.html?x=1 HTTP/1.1", b"Host: localhost:9292", *fields, b"", b""])
+
+
+def heads_with_fields():
+    """Heads by their fields: what curl and a browser send, and 8 and 64 fields with the Host field."""
+    curl = [b"User-Agent: curl/8.5.0", b"Accept: */*"]
+    browser = [
+        b"User-Agent: Mozilla/5.0 (X11; Linux x86_64; rv:128.0) Gecko/20100101 Firefox/128.0",
+        b"Accept: text/html,application/xhtml+xml,application/xml;q=0.9,image/avif,image/webp,*/*;q=0.8",
+        b"Accept-Language: en-US,en;q=0.5", b"Accept-Encoding: gzip, deflate, br, zstd", b"DNT: 1",
+        b"Sec-GPC: 1", b"Connection: keep-alive", b"Referer: http://localhost:9292/a/page?of=this&site=1",
+        b"Upgrade-Insecure-Requests: 1", b"Sec-Fetch-Dest: document", b"Sec-Fetch-Mode: navigate",
+        b"Sec-Fetch-Site: same-origin", b"Sec-Fetch-User: ?1", b"Priority: u=0, i", b"Pragma: no-cache",
+        b"Cache-Control: no-cache", b"TE: trailers", b"If-None-Match: \"5f2b-61d3\"",
+        b"Cookie: " + b"; ".join(b"name%02d=%s" % (i, b"0123456789abcdef" * 3) for i in range(18))[:KIB],
+    ]
+    return [
+        ("as curl writes it", request(curl)),
+        ("a browser's, 20 fields, 1 KiB of cookies", request(browser)),
+        ("8 fields, names that differ", request([b"X-Field-%02d: value" % i for i in range(7)])),
+        ("64 fields, names that differ", request([b"X-Field-%02d: value" % i for i in range(63)])),
+        ("8 fields, one name", request([b"X-Field-00: value"] * 7)),
+        ("64 fields, one name", request([b"X-Field-00: value"] * 63)),
+    ]
+
+
+def functions_named(word):
+    """The program's functions whose symbols hold the word."""
+    listed = subprocess.run(["nm", "--defined-only", PROGRAM], capture_output=True, text=True, check=False)
+    return [line.split()[-1] for line in listed.stdout.splitlines() if word in line]
+
+
+def main():
+    # What is built is built here, and not measured.
+    if subprocess.run([PUMA, "once", STACK], stdin=subprocess.DEVNULL).returncode != 0:
+        sys.exit("the program was not built")
+    can_count = shutil.which("valgrind") is not None
+    if not can_count:
+        print("passed over, since valgrind is missing: instructions\n")
+
+    print(f"On {os.cpu_count()} processors, {platform.machine()}; {RUNS} runs each, or what {SECONDS} seconds allow.")
+    print("Times are from the program's start to its end; byte by byte they hold the sender's too.\n")
+    print("| request | read | instructions | best time, ms | middle time, ms |")
+    print("|---|---|--:|--:|--:|")
+    counts, best = {}, {}
+    requests = [("short head, 27 bytes", GET)]
+    requests += [(f"head of {size} KiB", long_head(size * KIB)) for size in (8, 32)]
+    for name, text in requests:
+        for way, cut in WAYS:
+            taken = times([PROGRAM, "once", STACK], text, cut)
+            best[name, way] = min(taken)
+            counted = "not counted"
+            if can_count:
+                counts[name, way] = instructions(text, cut)
+                counted = f"{counts[name, way]:,}"
+            print(f"| {name} | {way} | {counted} | {min(taken):.2f} | {statistics.median(taken):.2f} |", flush=True)
+
+    print("\n| growth from 8 KiB to 32 KiB | instructions, at most 4.40 is wanted | best time |")
+    print("|---|--:|--:|")
+    for way, _ in WAYS:
+        few, many = ("head of 8 KiB", way), ("head of 32 KiB", way)
+        grown = f"{counts[many] / counts[few]:.2f} times" if can_count else "not counted"
+        print(f"| {way} | {grown} | {best[many] / best[few]:.2f} times |")
+
+    environment = functions_named("env_of")
+    empty = instructions(b"", False) if can_count else 0
+    print("\n| head | bytes | instructions of the run beyond one without input | of these the environment |")
+    print("|---|--:|--:|--:|")
+    made = {}
+    for name, text in heads_with_fields():
+        if not can_count:
+            break
+        whole = instructions(text, False) - empty
+        made[name] = instructions(text, False, environment[0]) if environment else None
+        share = f"{made[name]:,}" if environment else "not found by name"
+        print(f"| {name} | {len(text):,} | {whole:,} | {share} |", flush=True)
+    if can_count and environment:
+        print("\n| growth of the environment from 8 to 64 fields, at most 9 times is wanted | instructions |")
+        print("|---|--:|")
+        for names in ("names that differ", "one name"):
+            print(f"| {names} | {made['64 fields, ' + names] / made['8 fields, ' + names]:.2f} times |")
+
+    print("\n| starting and answering the short request, less than 10 ms is wanted | best time, ms | middle time, ms |")
+    print("|---|--:|--:|")
+    for name, command in (("the program", PROGRAM), ("through `bin/puma`", PUMA)):
+        taken = times([command, "once", STACK], GET, False)
+        print(f"| {name} | {min(taken):.2f} | {statistics.median(taken):.2f} |")
+
+
+if __name__ == "__main__":
+    main()

@@ -1,0 +1,527 @@
+"""Runs bin/puma as a user does and compares exit status, standard output and standard error.
+
+What is wanted is written down here from the rules for requests, stack files and exit statuses, and is
+never taken from the program. A case that can't be tried on this machine is passed over with a line.
+"""
+
+import errno
+import os
+import random
+import shutil
+import socket
+import subprocess
+import sys
+import tempfile
+import threading
+
+TOP = os.path.dirname(os.path.dirname(os.path.abspath(__file__)))
+PUMA = os.path.join(TOP, "bin", "puma")
+PROGRAM = os.path.join(TOP, "crates", "puma_cli", "out", "puma_cli")
+SECONDS = 60
+
+HELLO = b"run text 200 text/plain hello\n"
+GET = b"GET / HTTP/1.1\r\nHost: a\r\n\r\n"
+HEAD_LIMIT = 32768
+FILE_LIMIT = 65536
+READ_LIMIT = 16384
+
+
+# What is wanted
+
+def reply(body, kind=b"text/plain"):
+    head = b"HTTP/1.1 200 OK\r\ncontent-type: %s\r\ncontent-length: %d\r\n\r\n"
+    return head % (kind, len(body)) + body
+
+
+def refusal(fault):
+    line = {
+        "F0": b"501 Not Implemented",
+        "F1": b"431 Request Header Fields Too Large",
+        "F3": b"400 Bad Request",
+    }[fault]
+    head = b"HTTP/1.1 %s\r\nx-puma-fault: %s\r\ncontent-length: 0\r\nconnection: close\r\n\r\n"
+    return head % (line, fault.encode())
+
+
+NOTHING = (0, b"", b"")
+ANSWERED = (0, reply(b"hello"), b"")
+USAGE = (2, b"", b"puma: usage\n")
+ABSENT = (3, b"", b"puma: file absent\n")
+LONG = (3, b"", b"puma: file long\n")
+UNREADABLE = (3, b"", b"puma: file failed\n")
+NO_STACK = (4, b"", b"puma: stack line 1 S0\n")
+READ_FAILED = (6, b"", b"puma: read failed\n")
+WRITE_FAILED = (7, b"", b"puma: write failed\n")
+
+
+def refused(fault):
+    return (0, refusal(fault), b"")
+
+
+def head_end(text):
+    """Where the first head text ends: behind the first blank line that isn't at the front."""
+    at = 0
+    while text[at:at + 1] == b"\n" or text[at:at + 2] == b"\r\n":
+        at += 1 if text[at:at + 1] == b"\n" else 2
+    while True:
+        at = text.find(b"\n", at) + 1
+        if at == 0:
+            return None
+        if text[at:at + 1] == b"\n":
+            return at + 1
+        if text[at:at + 2] == b"\r\n":
+            return at + 2
+
+
+def noise_wanted(text):
+    """The answer to bytes whose first line is no request line."""
+    end = head_end(text)
+    if end is not None and end <= HEAD_LIMIT:
+        return refused("F3")
+    return refused("F1") if len(text) > HEAD_LIMIT else NOTHING
+
+
+# Running the program
+
+class Cut:
+    """Input that comes in these pieces, each of them one read, and then ends or stays open."""
+
+    def __init__(self, pieces, stays_open=False):
+        self.pieces = [bytes(piece) for piece in pieces]
+        self.stays_open = stays_open
+
+    @staticmethod
+    def every(text, size):
+        return Cut(text[at:at + size] for at in range(0, len(text), size))
+
+
+class Reset:
+    """Input that breaks off behind this text: the next read fails."""
+
+    def __init__(self, text):
+        self.text = text
+
+
+def feed(end, cut):
+    try:
+        for piece in cut.pieces:
+            end.send(piece)
+    except OSError as e:
+        # The program has read enough and has ended.
+        if e.errno not in (errno.EPIPE, errno.ECONNRESET):
+            raise
+    if not cut.stays_open:
+        end.shutdown(socket.SHUT_WR)
+
+
+def run(words, stdin=b"", stdout=subprocess.PIPE, program=(PUMA,)):
+    """Status, output and errors of the program, run in the current folder. A hang gives None."""
+    far = feeder = None
+    if isinstance(stdin, bytes):
+        near = tempfile.TemporaryFile()
+        near.write(stdin)
+        near.seek(0)
+    elif isinstance(stdin, Cut):
+        far, near = socket.socketpair(socket.AF_UNIX, socket.SOCK_SEQPACKET)
+    elif isinstance(stdin, Reset):
+        far, near = socket.socketpair(socket.AF_UNIX, socket.SOCK_STREAM)
+        near.send(b"never read")
+        far.send(stdin.text)
+        far.close()
+    else:
+        near = os.open(stdin, os.O_RDONLY)
+    child = subprocess.Popen([*program, *words], stdin=near, stdout=stdout, stderr=subprocess.PIPE)
+    os.close(near) if isinstance(near, int) else near.close()
+    if isinstance(stdin, Cut):
+        feeder = threading.Thread(target=feed, args=(far, stdin))
+        feeder.start()
+    try:
+        out, err = child.communicate(timeout=SECONDS)
+        return (child.returncode, out or b"", err)
+    except subprocess.TimeoutExpired:
+        child.kill()
+        child.communicate()
+        return None
+    finally:
+        if feeder is not None:
+            feeder.join()
+            far.close()
+
+
+class Checks:
+    """Counts what passed, and prints a line for each group and for each case that failed."""
+
+    def __init__(self):
+        self.passed = self.failed = self.skipped = 0
+        self.group, self.in_group = "", 0
+
+    def begin(self, group):
+        self.end()
+        self.group, self.in_group = group, 0
+
+    def end(self):
+        if self.in_group:
+            print(f"{self.group}: {self.in_group} passed", flush=True)
+
+    def wants(self, name, want, *words, **how):
+        got = run(words, **how)
+        if got == want:
+            self.passed += 1
+            self.in_group += 1
+            return
+        self.failed += 1
+        print(f"FAILED {self.group}: {name}")
+        if got is None:
+            print(f"  did not end within {SECONDS} seconds")
+            return
+        for part, wanted, found in zip(("status", "output", "errors"), want, got):
+            if wanted != found:
+                print(f"  {part}: wanted {short(wanted)}, found {short(found)}")
+
+    def counts(self, name, want, got):
+        if got == want:
+            self.passed += 1
+            self.in_group += 1
+        else:
+            self.failed += 1
+            print(f"FAILED {self.group}: {name}\n  wanted {want}, found {got}")
+
+    def pass_over(self, name, why):
+        self.skipped += 1
+        print(f"passed over, since {why}: {self.group}: {name}")
+
+
+def short(value):
+    text = repr(value)
+    return text if len(text) < 200 else text[:150] + f".. ({len(value)} bytes)"
+
+
+def write(name, text):
+    with open(name, "wb") as file:
+        file.write(text)
+    return name
+
+
+# The cases
+
+def check_words(checks):
+    checks.begin("words")
+    for name, words in [
+        ("no word", []),
+        ("an empty word", [""]),
+        ("an unknown word", ["twice", "hello.stack"]),
+        ("an unknown word alone", ["hello.stack"]),
+        ("a command in capitals", ["Once", "hello.stack"]),
+        ("an option", ["--help"]),
+        ("once alone", ["once"]),
+        ("a third word", ["once", "hello.stack", "hello.stack"]),
+        ("the words turned round", ["hello.stack", "once"]),
+        ("a command that isn't UTF-8", [b"\xffonce", "hello.stack"]),
+        ("a name that isn't UTF-8", ["once", b"hello\xff.stack"]),
+        ("a third word that isn't UTF-8", ["once", "hello.stack", b"\xc3\x28"]),
+    ]:
+        checks.wants(name, USAGE, *words, stdin=GET)
+
+
+def check_files(checks):
+    checks.begin("files")
+    checks.wants("no such file", ABSENT, "once", "nofile", stdin=GET)
+    checks.wants("no such folder", ABSENT, "once", "nofolder/hello.stack", stdin=GET)
+    os.symlink("nofile", "dangling")
+    checks.wants("a link to nothing", ABSENT, "once", "dangling", stdin=GET)
+    checks.wants("a folder", UNREADABLE, "once", ".", stdin=GET)
+    os.symlink("round", "round")
+    checks.wants("a link to itself", UNREADABLE, "once", "round", stdin=GET)
+    if os.geteuid() == 0:
+        checks.pass_over("a file that may not be read", "root may read each")
+    else:
+        os.chmod(write("secret", HELLO), 0)
+        checks.wants("a file that may not be read", UNREADABLE, "once", "secret", stdin=GET)
+    checks.wants("a file without end", LONG, "once", "/dev/zero", stdin=GET)
+    front = b"run text 200 text/plain "
+    body = b"h" * (FILE_LIMIT - len(front))
+    write("most", front + body)
+    checks.wants("a file of the most bytes", (0, reply(body), b""), "once", "most", stdin=GET)
+    write("more", front + body + b"h")
+    checks.wants("one byte more", LONG, "once", "more", stdin=GET)
+    write("a name with spaces", HELLO)
+    checks.wants("a name with spaces", ANSWERED, "once", "a name with spaces", stdin=GET)
+    checks.wants("an absent file before a failed read", ABSENT, "once", "nofile", stdin="/")
+
+
+def check_stacks(checks):
+    checks.begin("stack files")
+    for name, text in [
+        ("empty", b""),
+        ("a line end alone", b"\n"),
+        ("a CR", b"run text 200 text/plain hello\r\n"),
+        ("a NUL", b"run text 200 text/plain hel\0lo\n"),
+        ("a NUL at the end", b"run text 200 text/plain hello\n\0"),
+        ("two spaces", b"run text 200 text/plain  hello\n"),
+        ("two spaces further in front", b"run  text 200 text/plain hello\n"),
+        ("a space in front", b" run text 200 text/plain hello\n"),
+        ("a space behind", b"run text 200 text/plain hello \n"),
+        ("a tab", b"run text 200 text/plain\thello\n"),
+        ("a second line", HELLO + HELLO),
+        ("a second line that is empty", HELLO + b"\n"),
+        ("a line in front that is empty", b"\n" + HELLO),
+        ("another status", b"run text 201 text/plain hello\n"),
+        ("a status with a zero in front", b"run text 0200 text/plain hello\n"),
+        ("another endpoint", b"run echo\n"),
+        ("another endpoint of that form", b"run texts 200 text/plain hello\n"),
+        ("another first word", b"use text 200 text/plain hello\n"),
+        ("a first word in capitals", b"RUN text 200 text/plain hello\n"),
+        ("no body", b"run text 200 text/plain\n"),
+        ("an empty body", b"run text 200 text/plain \n"),
+        ("an empty type", b"run text 200  hello\n"),
+        ("a word too many", b"run text 200 text/plain hello there\n"),
+        ("a backslash in the body", b"run text 200 text/plain hel\\slo\n"),
+        ("a backslash in the type", b"run text 200 text\\plain hello\n"),
+        ("the byte 127", b"run text 200 text/plain hello\x7f\n"),
+        ("a byte above 127", b"run text 200 text/plain h\xc3\xa9llo\n"),
+        ("the byte 31", b"run text 200 text/plain hello\x1f\n"),
+    ]:
+        checks.wants(name, NO_STACK, "once", write("stack", text), stdin=GET)
+    write("stack", b"run echo\n")
+    checks.wants("a bad stack before a failed read", NO_STACK, "once", "stack", stdin="/")
+    write("stack", HELLO[:-1])
+    checks.wants("no line end", ANSWERED, "once", "stack", stdin=GET)
+    write("stack", b"run text 200 ! ~\n")
+    checks.wants("the first and the last byte", (0, reply(b"~", b"!"), b""), "once", "stack", stdin=GET)
+
+
+def check_outside(checks):
+    checks.begin("the outside")
+    checks.wants("input that is a folder", READ_FAILED, "once", "hello.stack", stdin="/")
+    checks.wants("input that breaks off", READ_FAILED, "once", "hello.stack", stdin=Reset(GET[:-1]))
+    checks.wants("input that breaks off at once", READ_FAILED, "once", "hello.stack", stdin=Reset(b""))
+    # The shell takes the stream away, as a user would.
+    shut = ("bash", "-c", 'exec "$@" <&-', "bash", PUMA)
+    checks.wants("input that is closed", READ_FAILED, "once", "hello.stack", program=shut)
+    shut = ("bash", "-c", 'exec "$@" >&-', "bash", PUMA)
+    checks.wants("output that is closed", WRITE_FAILED, "once", "hello.stack", stdin=GET, program=shut)
+    for name, want, stdin in [
+        ("a pipe whose reader is gone", WRITE_FAILED, GET),
+        ("a refusal into a pipe whose reader is gone", WRITE_FAILED, b"\r\n\xff\r\n\r\n"),
+        ("nothing for a pipe whose reader is gone", NOTHING, b""),
+    ]:
+        reader, writer = os.pipe()
+        os.close(reader)
+        checks.wants(name, want, "once", "hello.stack", stdin=stdin, stdout=writer)
+        os.close(writer)
+    if os.path.exists("/dev/full"):
+        with open("/dev/full", "wb") as full:
+            checks.wants("a full device", WRITE_FAILED, "once", "hello.stack", stdin=GET, stdout=full)
+    else:
+        checks.pass_over("a full device", "there is no /dev/full")
+
+
+def check_interruptions(checks):
+    checks.begin("interruptions")
+    write("request", GET)
+    try:
+        tried = subprocess.run(["strace", "-o", "trace", "-e", "inject=read:error=EINTR:when=999", "true"],
+                               capture_output=True)
+        can = tried.returncode == 0
+    except FileNotFoundError:
+        can = False
+    for name, which in [
+        ("reads of the stack file", ["-P", os.path.abspath("hello.stack"), "-e", "inject=read:error=EINTR:when=1..3"]),
+        ("reads of the input", ["-P", os.path.abspath("request"), "-e", "inject=read:error=EINTR:when=1..3"]),
+        ("writes of the output", ["-e", "inject=write:error=EINTR:when=1..3"]),
+    ]:
+        if not can:
+            checks.pass_over(name, "strace is missing or may not be used")
+            continue
+        program = ["strace", "-o", "trace", *which, PROGRAM]
+        checks.wants(name, ANSWERED, "once", "hello.stack", stdin="request", program=program)
+        with open("trace", "rb") as trace:
+            interrupted = trace.read().count(b"(INJECTED)")
+        checks.counts(f"{name}, how many", 3, interrupted)
+
+
+def check_requests(checks):
+    checks.begin("requests")
+    get = b"GET / HTTP/1.1\r\n"
+    long_target = HEAD_LIMIT - len(GET)
+    for name, want, stdin in [
+        ("the first request", ANSWERED, GET),
+        ("line ends of one byte", ANSWERED, GET.replace(b"\r", b"")),
+        ("a field name in small letters", ANSWERED, get + b"host: a\r\n\r\n"),
+        ("a field name in capitals", ANSWERED, get + b"HOST: a\r\n\r\n"),
+        ("no space in front of the value", ANSWERED, get + b"Host:a\r\n\r\n"),
+        ("spaces and tabs around the value", ANSWERED, get + b"Host: \t a\t \r\n\r\n"),
+        ("a longer host", ANSWERED, get + b"Host: abcdefghijklmnopqrstuvwxyz\r\n\r\n"),
+        ("a query", ANSWERED, b"GET /a/b?c=d&e HTTP/1.1\r\nHost: a\r\n\r\n"),
+        ("what follows is not answered", ANSWERED, GET + GET),
+        ("what follows is not read as a request", ANSWERED, GET + b"\0\xff\r\n\r\n"),
+        ("empty lines in front", ANSWERED, b"\r\n\n\r\n" + GET),
+        ("the longest head", ANSWERED, GET.replace(b"/ ", b"/" + b"a" * long_target + b" ")),
+        ("one byte longer", refused("F1"), GET.replace(b"/ ", b"/" + b"a" * (long_target + 1) + b" ")),
+        ("HTTP/1.0", refused("F0"), b"GET / HTTP/1.0\r\n\r\n"),
+        ("HTTP/1.0 with a host", refused("F0"), b"GET / HTTP/1.0\r\nHost: a\r\n\r\n"),
+        ("no field", refused("F0"), get + b"\r\n"),
+        ("another field", refused("F0"), get + b"Hosts: a\r\n\r\n"),
+        ("two fields", refused("F0"), get + b"Host: a\r\nConnection: close\r\n\r\n"),
+        ("two hosts", refused("F0"), get + b"Host: a\r\nHost: a\r\n\r\n"),
+        ("an empty host", refused("F0"), get + b"Host:\r\n\r\n"),
+        ("a host with a capital", refused("F0"), get + b"Host: A\r\n\r\n"),
+        ("a host with a digit", refused("F0"), get + b"Host: a1\r\n\r\n"),
+        ("a host with a port", refused("F0"), get + b"Host: a:80\r\n\r\n"),
+        ("another method", refused("F0"), GET.replace(b"GET", b"POST")),
+        ("a longer method", refused("F0"), GET.replace(b"GET", b"GETS")),
+        ("a method in small letters", refused("F0"), GET.replace(b"GET", b"get")),
+        ("a target with a scheme", refused("F0"), GET.replace(b"/ ", b"http://a/ ")),
+        ("the target of all", refused("F0"), GET.replace(b"/ ", b"* ")),
+        ("a target with a fragment", refused("F0"), GET.replace(b"/ ", b"/#a ")),
+        ("a target with a letter above 127", refused("F0"), GET.replace(b"/ ", b"/\xc3\xa9 ")),
+        ("a host above 127", refused("F0"), get + b"Host: \xff\r\n\r\n"),
+        ("64 fields", refused("F0"), get + b"Host: a\r\n" * 64 + b"\r\n"),
+        ("65 fields", refused("F3"), get + b"Host: a\r\n" * 65 + b"\r\n"),
+        ("a target that isn't UTF-8", refused("F3"), GET.replace(b"/ ", b"/\xff ")),
+        ("a target with the byte 127", refused("F3"), GET.replace(b"/ ", b"/\x7f ")),
+        ("two spaces", refused("F3"), GET.replace(b"GET ", b"GET  ")),
+        ("a version in small letters", refused("F3"), GET.replace(b"HTTP", b"http")),
+        ("a space behind the version", refused("F3"), GET.replace(b"1.1", b"1.1 ")),
+        ("a field without a name", refused("F3"), get + b": a\r\n\r\n"),
+        ("no version", refused("F3"), b"GET /\r\nHost: a\r\n\r\n"),
+        ("another version", refused("F3"), GET.replace(b"1.1", b"2.0")),
+        ("no colon", refused("F3"), get + b"Host a\r\n\r\n"),
+        ("a space in front of the colon", refused("F3"), get + b"Host : a\r\n\r\n"),
+        ("a line that goes on", refused("F3"), get + b"Host: a\r\n b\r\n\r\n"),
+        ("a NUL in a value", refused("F3"), get + b"Host: a\0\r\n\r\n"),
+        ("a NUL in the target", refused("F3"), GET.replace(b"/ ", b"/\0 ")),
+        ("a CR alone", refused("F3"), get + b"Host: a\rb\r\n\r\n"),
+        ("a space in front of the method", refused("F3"), b" " + GET),
+        ("a byte and a blank line", refused("F3"), b"x\n\n"),
+        ("the refusal comes with the blank line", NOTHING, b"x\n"),
+        ("a line in front of a request", refused("F3"), b"x\r\n" + GET),
+    ]:
+        checks.wants(name, want, "once", "hello.stack", stdin=stdin)
+
+
+def check_cuts(checks):
+    checks.begin("cuts")
+    for size in range(len(GET)):
+        checks.wants(f"the first {size} bytes", NOTHING, "once", "hello.stack", stdin=GET[:size])
+    if not hasattr(socket, "SOCK_SEQPACKET"):
+        checks.pass_over("input in pieces", "there are no sockets that keep pieces apart")
+        return
+    for size in range(1, len(GET)):
+        cut = Cut([GET[:size], GET[size:]])
+        checks.wants(f"cut behind {size} bytes", ANSWERED, "once", "hello.stack", stdin=cut)
+    target = b"/" + b"a" * (HEAD_LIMIT - len(GET))
+    longest = GET.replace(b"/", target, 1)
+    old = b"GET / HTTP/1.0\r\n\r\n"
+    for name, want, text, size in [
+        ("byte by byte", ANSWERED, GET, 1),
+        ("half a request byte by byte", NOTHING, GET[:-1], 1),
+        ("empty lines byte by byte", ANSWERED, b"\r\n\n" + GET, 1),
+        ("HTTP/1.0 byte by byte", refused("F0"), old, 1),
+        ("no head byte by byte", refused("F3"), b"\r\n?x\r\n\r\n", 1),
+        ("the longest head in large pieces", ANSWERED, longest, READ_LIMIT),
+        ("the longest head in small pieces", ANSWERED, longest, 7),
+        ("the longest head byte by byte", ANSWERED, longest, 1),
+        ("one byte longer byte by byte", refused("F1"), longest.replace(b"/", b"//", 1), 1),
+        ("no end in large pieces", refused("F1"), b"a" * (4 * READ_LIMIT), READ_LIMIT),
+        ("the most bytes without an end", NOTHING, b"a" * HEAD_LIMIT, READ_LIMIT),
+        ("one byte more without an end", refused("F1"), b"a" * (HEAD_LIMIT + 1), READ_LIMIT),
+    ]:
+        checks.wants(name, want, "once", "hello.stack", stdin=Cut.every(text, size))
+    for name, want, text in [
+        ("a request in front of input that stays open", ANSWERED, GET),
+        ("a refusal in front of input that stays open", refused("F3"), b"x\n\n"),
+    ]:
+        checks.wants(name, want, "once", "hello.stack", stdin=Cut([text], stays_open=True))
+    pieces = Cut.every(b"a" * (HEAD_LIMIT + 1), READ_LIMIT).pieces
+    checks.wants("too long a head in front of input that stays open", refused("F1"), "once", "hello.stack",
+                 stdin=Cut(pieces, stays_open=True))
+
+
+def check_hostile(checks):
+    checks.begin("hostile input")
+    mib = 1 << 20
+    dice = random.Random(2024)
+
+    def noise(size, without=b""):
+        return dice.randbytes(size).translate(None, without)
+
+    # A byte above 127 begins no method, so none of these is a request.
+    noises = [(f"random bytes, {size} of them", b"\xff" + noise(size - 1)) for size in (1, 100, 10000)]
+    noises += [(f"random bytes, a mebibyte, number {i}", b"\xff" + noise(mib - 1)) for i in range(1, 6)]
+    noises += [
+        ("random bytes with a blank line early", b"\xff" + noise(1000, b"\n") + b"\n\r\n" + noise(mib)),
+        ("random bytes with a blank line late", b"\xff" + noise(HEAD_LIMIT * 2, b"\n") + b"\n\n" + noise(mib)),
+        ("random bytes without a line end", b"\xff" + noise(mib, b"\n")),
+        ("random bytes, line ends and empty lines", b"\xff" + bytes(dice.choices(b"\r\n\xff", k=mib))),
+        ("zeros", bytes(mib)),
+        ("carriage returns", b"\r" * mib),
+        ("carriage returns, as many as are held", b"\r" * HEAD_LIMIT),
+    ]
+    for name, text in noises:
+        checks.wants(name, noise_wanted(text), "once", "hello.stack", stdin=text)
+
+    room = HEAD_LIMIT - len(GET)
+    for name, want, text in [
+        ("a million empty lines", refused("F1"), b"\r\n" * 1000000),
+        ("a million empty lines of one byte", refused("F1"), b"\n" * 1000000),
+        ("as many empty lines as are held", NOTHING, b"\n" * HEAD_LIMIT),
+        ("one empty line more", refused("F1"), b"\n" * (HEAD_LIMIT + 1)),
+        ("empty lines and a request, as much as is held", ANSWERED, b"\n" * room + GET),
+        ("empty lines and a request, a byte more", refused("F1"), b"\n" * (room + 1) + GET),
+        ("a request behind a million empty lines", refused("F1"), b"\r\n" * 1000000 + GET),
+        ("a target without end", refused("F1"), b"GET /" + b"a" * mib),
+        ("a value without end", refused("F1"), b"GET / HTTP/1.1\r\nHost: " + b"a" * mib),
+        ("fields without end", refused("F1"), b"GET / HTTP/1.1\r\n" + b"Host: a\r\n" * 100000),
+        ("a value without end that is held", NOTHING, (b"GET / HTTP/1.1\r\nHost: " + b"a" * mib)[:HEAD_LIMIT]),
+        ("a request and a mebibyte behind it", ANSWERED, GET + noise(mib)),
+    ]:
+        checks.wants(name, want, "once", "hello.stack", stdin=text)
+    checks.wants("zeros without end", refused("F1"), "once", "hello.stack", stdin="/dev/zero")
+
+
+def check_shell(checks):
+    checks.begin("bin/puma")
+    here = os.getcwd()
+    with open(os.path.join(TOP, "examples", "get.http"), "rb") as file:
+        example = file.read()
+    stack = os.path.join("examples", "hello.stack")
+    os.chdir(TOP)
+    checks.wants("the example", ANSWERED, "once", stack, stdin=example, program=(os.path.join("bin", "puma"),))
+    os.chdir(os.path.join(TOP, "examples"))
+    checks.wants("from another folder", ANSWERED, "once", "hello.stack", stdin=example,
+                 program=(os.path.join("..", "bin", "puma"),))
+    os.chdir(here)
+    os.symlink(PUMA, "linked")
+    checks.wants("through a link", ANSWERED, "once", "hello.stack", stdin=example, program=(os.path.join(".", "linked"),))
+    checks.wants("its folder is the user's", ABSENT, "once", stack, stdin=example)
+    checks.wants("an empty word is kept", USAGE, "once", "hello.stack", "", stdin=example)
+
+
+def main():
+    # What is built is built here, so that no case sees it.
+    built = subprocess.run([PUMA, "once", os.path.join(TOP, "examples", "hello.stack")],
+                           stdin=subprocess.DEVNULL, stdout=subprocess.DEVNULL)
+    if built.returncode == 125:
+        print("the program was not built")
+        print("0 passed, 1 failed")
+        return 1
+    checks = Checks()
+    folder = tempfile.mkdtemp(prefix="puma-checks-")
+    os.chdir(folder)
+    try:
+        write("hello.stack", HELLO)
+        for group in (check_shell, check_words, check_files, check_stacks, check_requests, check_cuts,
+                      check_hostile, check_outside, check_interruptions):
+            group(checks)
+        checks.end()
+    finally:
+        os.chdir(TOP)
+        shutil.rmtree(folder)
+    skipped = f", {checks.skipped} skipped" if checks.skipped else ""
+    print(f"{checks.passed} passed, {checks.failed} failed{skipped}")
+    return 1 if checks.failed else 0
+
+
+if __name__ == "__main__":
+    sys.exit(main())

@@ -1,0 +1,51 @@
+-- Where a request begins and ends, and what is refused: relations on whole byte lists.
+use Rattle.std.specs.Prelude.{◌≡◌, ℕ, ◌<◌, ◌≤◌, ◌⊎◌, List, length, take, Option, None, Some}
+use Rattle.httparse.specs.Grammar.{RequestHead}
+use Rattle.rack_types.specs.declared.fault.Fault.{Fault}
+use Rattle.rack_types.specs.declared.fault.Fault.TheVariants.{F}
+use Rattle.rack_types.specs.Request.{Parts}
+use Rattle.message_framing.specs.HeadText.{head_len, head_text}
+use Rattle.message_framing.specs.Head.{IsHead, IsNoHead, head_fault, request_of}
+
+-- the bytes that a head may have, with the empty lines before it
+abbrev pub head_limit : ℕ
+head_limit = 32768
+
+-- where the head text ends, if it does within the limit
+abbrev pub head_within : List ℕ → Option ℕ
+head_within b = head_len (take head_limit b)
+
+-- the refusal of a whole head text: F3 where it is no head, else what the head earns
+abbrev pub HeadRefusal : List ℕ → Fault → Type 0
+HeadRefusal text f =
+    (IsNoHead text × (f ≡ F 3)) ⊎ ((h : RequestHead) × IsHead text h × (head_fault h ≡ Some f))
+
+-- the text is a head that earns no refusal, and r is its request
+abbrev pub IsGoodHead : List ℕ → Parts → Type 0
+IsGoodHead text r = (h : RequestHead) × IsHead text h × (head_fault h ≡ None) × (r ≡ request_of h)
+
+-- the refusal, by where the head text ends: F1 where it does not and the limit is passed
+abbrev pub RefusalAt : Option ℕ → List ℕ → Fault → Type 0
+RefusalAt None b f = (head_limit < length b) × (f ≡ F 1)
+RefusalAt (Some n) b f = HeadRefusal (head_text (take n b)) f
+
+-- f is the first refusal that stands for b
+abbrev pub Refusal : List ℕ → Fault → Type 0
+Refusal b f = RefusalAt (head_within b) b f
+
+-- b is a whole request, by where its head text ends
+abbrev pub RequestAt : Option ℕ → List ℕ → Parts → Type 0
+RequestAt None b r = ⊥
+RequestAt (Some n) b r = (n ≡ length b) × IsGoodHead (head_text (take n b)) r
+
+-- b is the request r: empty lines, a head that earns no refusal, and nothing behind it
+abbrev pub IsRequest : List ℕ → Parts → Type 0
+IsRequest b r = RequestAt (head_within b) b r
+
+-- b begins with the request r, of n bytes
+abbrev pub Begins : List ℕ → ℕ → Parts → Type 0
+Begins b n r = (n ≤ length b) × IsRequest (take n b) r
+
+-- neither a request stands at the front of b, nor a refusal
+abbrev pub Wanting : List ℕ → Type 0
+Wanting b = ((n : ℕ) (r : Parts) → ¬ (Begins b n r)) × ((f : Fault) → ¬ (Refusal b f))

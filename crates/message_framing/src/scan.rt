@@ -1,0 +1,97 @@
+// Where a head ends, found piece by piece.
+ghost use Rattle.std.specs.Prelude.{◌≡◌, ◌<◌, ◌≤◌, length, drop, take, None, IfNone, OnSome};
+ghost use Rattle.message_framing.specs.HeadText.{skip};
+ghost use Rattle.message_framing.specs.Scan.{next, behind, ends};
+
+use memchr::memchr;
+
+/// What the last line of the bytes so far is.
+#[derive(Clone, Copy, Debug, PartialEq, Eq)]
+pub(crate) enum Line {
+    /// Whole empty lines alone came.
+    Skipping,
+    /// The same, and a carriage return behind them.
+    SkippingReturn,
+    /// Inside a line that is not empty.
+    Text,
+    /// At the start of a line of the head.
+    Start,
+    /// The same, and a carriage return.
+    Return,
+    /// The head text has ended.
+    Ended,
+}
+
+impl Line {
+    // The state behind one more byte.
+    fn next(self, byte: u8) -> Line
+        ensures { result ≡ next self byte }
+    {
+        match (byte, self) {
+            (_, Line::Ended) => Line::Ended,
+            (b'\n', Line::Skipping | Line::SkippingReturn) => Line::Skipping,
+            (b'\n', Line::Text) => Line::Start,
+            (b'\n', Line::Start | Line::Return) => Line::Ended,
+            (b'\r', Line::Skipping) => Line::SkippingReturn,
+            (b'\r', Line::Start) => Line::Return,
+            _ => Line::Text,
+        }
+    }
+
+    // Goes on over a piece: how many of its bytes end the head text, where they do, and the state
+    // behind them. Inside a line it looks for the next line feed alone.
+    pub(crate) fn scan(&mut self, piece: &[u8]) -> Option<usize>
+        ensures end { result ≡ ends self.old piece.now }
+        ensures line { IfNone result (self.new ≡ behind self.old piece.now) }
+    {
+        let mut i = 0;
+        while i < piece.len() {
+            if let Line::Text = *self {
+                match memchr(b'\n', suffix(piece, i)) {
+                    None => return None,
+                    Some(k) => i += k,
+                }
+            }
+            *self = self.next(piece[i]);
+            i += 1;
+            if let Line::Ended = *self {
+                return Some(i);
+            }
+        }
+        None
+    }
+}
+
+// How many bytes the whole empty lines at the front have.
+pub(crate) fn skip(bytes: &[u8]) -> usize
+    ensures value { result ≡ skip bytes.now }
+    ensures within { result ≤ length bytes.now }
+{
+    let mut at = 0;
+    while at < bytes.len() {
+        if bytes[at] == b'\n' {
+            at += 1;
+        } else if bytes[at] == b'\r' && at + 1 < bytes.len() && bytes[at + 1] == b'\n' {
+            at += 2;
+        } else {
+            break;
+        }
+    }
+    at
+}
+
+// What stands from a place on.
+pub(crate) fn suffix(bytes: &[u8], from: usize) -> &[u8]
+    requires { from ≤ length bytes.now }
+    ensures { result.now ≡ drop from bytes.now }
+{
+    &bytes[from..]
+}
+
+// The first bytes, up to a place.
+pub(crate) fn prefix(bytes: &[u8], to: usize) -> &[u8]
+    requires { to ≤ length bytes.now }
+    ensures { result.now ≡ take to bytes.now }
+{
+    &bytes[..to]
+}

@@ -1,0 +1,63 @@
+// The program `puma`: standard input and output, real files and the words of the command line for
+// the proved top call, and its answer as a line on standard error and an exit status.
+#![tactic(auto)]
+
+mod read_source;
+mod real_files;
+#[cfg(test)]
+mod temporary;
+mod write_sink;
+
+use puma_top::{FileWhy, Status, run_quiet};
+use read_source::ReadSource;
+use real_files::RealFiles;
+use std::io::ErrorKind;
+use std::process::ExitCode;
+use std::{env, io, rt};
+use write_sink::WriteSink;
+
+fn main(rt: HostRuntime) -> ExitCode {
+    let status = match words(&rt) {
+        Ok(words) => {
+            let mut files = RealFiles::new(&rt);
+            let mut source = ReadSource::new(rt.stdin());
+            let mut sink = WriteSink::new(rt.stdout());
+            run_quiet(
+                rt.alloc(),
+                words.as_slice(),
+                &mut files,
+                &mut source,
+                &mut sink,
+            )
+        }
+        Err(e) if e.kind() == ErrorKind::OutOfMemory => Status::NoMemory,
+        Err(_) => Status::Usage,
+    };
+    // Where standard error takes nothing either, the exit status alone tells.
+    let _ = report(&rt, &status);
+    ExitCode::from(status.code())
+}
+
+/// The words behind the program's name. One that is no text makes all of them an error.
+fn words<R: rt::Env + AllocGlobal>(runtime: &R) -> io::Result<Vec<String>> {
+    let mut words = Vec::new(runtime.alloc());
+    for word in env::args(runtime)?.skip(1) {
+        words.push(word)?;
+    }
+    Ok(words)
+}
+
+/// One line on standard error for each answer but Done.
+fn report(runtime: &impl Eprint, status: &Status) -> io::Result<()> {
+    match status {
+        Status::Done => Ok(()),
+        Status::NoMemory => runtime.eprintln("puma: no memory"),
+        Status::Usage => runtime.eprintln("puma: usage"),
+        Status::File(FileWhy::Absent) => runtime.eprintln("puma: file absent"),
+        Status::File(FileWhy::Long) => runtime.eprintln("puma: file long"),
+        Status::File(FileWhy::Failed) => runtime.eprintln("puma: file failed"),
+        Status::Stack { line, rule } => eprintln!(runtime; "puma: stack line {line} S{rule}"),
+        Status::SourceFault => runtime.eprintln("puma: read failed"),
+        Status::SinkFault => runtime.eprintln("puma: write failed"),
+    }
+}

@@ -1,0 +1,4 @@
+pub mod OnceLemmas
+pub mod QuietLemmas
+pub mod ReplyLemmas
+pub mod StackLemmas

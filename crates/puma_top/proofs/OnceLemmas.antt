@@ -1,0 +1,236 @@
+-- What stands in bytes that came in pieces.
+use Rattle.std.proofs.Common.{◌≡◌, ℕ, ◌+◌, ◌-◌, ◌<◌, ◌≤◌, ◌⊎◌, inl, inr, List, [], ◌∷◌, ◌++◌, length, take, drop, Option, None, Some, Result, Ok, Err, IfOk, Fits, w64, refl, ap, sym, ◌∙◌, subst, arith, length-append, length-drop, length-take, min}
+use Rattle.std.proofs.Math.Seq.{take-add}
+use Rattle.std.proofs.lemmas.Bool.{cases_lt}
+use Rattle.std.proofs.lemmas.List.{append_assoc, append-nil, take-append-drop, take-append-le, take-take}
+use Rattle.rack_types.specs.declared.fault.Fault.{Fault}
+use Rattle.rack_types.specs.declared.fault.Fault.TheVariants.{F}
+use Rattle.rack_types.specs.Request.{Parts}
+use Rattle.rack_outside.specs.Told.{Appends, Rose}
+use Rattle.rack_outside.specs.Source.{Gives, IsWhole}
+use Rattle.rack_outside.specs.declared.source.SourceRead.TheVariants as read
+use Rattle.message_framing.specs.declared.intake.Intake.{Intake}
+use Rattle.message_framing.specs.declared.intake.Feed.{Feed}
+use Rattle.message_framing.specs.declared.intake.Feed.TheVariants.{More, Whole, Refused}
+use Rattle.message_framing.specs.HeadText.{head_len, head_text, skip, lines_end}
+use Rattle.message_framing.specs.Head.{IsHead, IsNoHead, head_fault, request_of}
+use Rattle.message_framing.specs.Request.{head_limit, head_within, Refusal, IsRequest, Begins, Wanting}
+use Rattle.message_framing.specs.Intake.{Fed, IsRight, taken, FeedsTo}
+use Rattle.puma_top.specs.Reply.{hello_reply, fault_reply}
+use Rattle.puma_top.specs.Once.{First, refused, request, wanting, Stands, Arrives, WritesPart, Sends, Answered, AnsweredInPart, Ends}
+use Rattle.puma_top.specs.declared.once.Came.{Came}
+use Rattle.puma_top.specs.declared.once.Came.TheVariants as came
+use Rattle.puma_top.specs.declared.status.Status.{Status}
+use Rattle.puma_top.specs.declared.status.Status.TheVariants as status
+use Rattle.message_framing.proofs.RequestLemmas.{wanting as open_wanting, refusal_unique, begins_not_refused, too_long, refused_at, begins_so, begins_whole, begins_stays}
+
+-- where a head text has ended, a request or a refusal stands
+not_ended : (b : List ℕ) → Wanting b → (n : ℕ) → head_within b ≡ Some n → IsNoHead (head_text (take n b))
+not_ended b w n is h head = go (head_fault h) refl
+  where
+    go : (o : Option Fault) → head_fault h ≡ o → ⊥
+    go None good = w.0 n (request_of h) (begins_so b n (request_of h) (record { end = is; good = (h, head, good, refl) }))
+    go (Some f) bad = w.1 f (refused_at b n f is (inr (h, head, bad)))
+
+not_long : (b : List ℕ) → Wanting b → head_limit < length b → (o : Option ℕ) → head_within b ≡ o → ⊥
+not_long b w long None is = w.1 (F 1) (too_long b is long)
+not_long b w long (Some n) is = w.1 (F 3) (refused_at b n (F 3) is (inl (not_ended b w n is, refl)))
+
+-- where neither stands, few bytes came
+pub wanting_within : (b : List ℕ) → Wanting b → length b ≤ head_limit
+wanting_within b w = elim (cases_lt head_limit (length b)) [
+  | inl long ↦ absurd (not_long b w long (head_within b) refl)
+  | inr fits ↦ fits
+]
+
+empty : head_len [] ≡ None
+unfolding head_len skip lines_end
+empty = refl
+
+pub wanting_nil : Wanting []
+wanting_nil = let few : length {A = ℕ} [] ≤ head_limit = omega arith in open_wanting [] empty few
+
+-- a request that ends in a piece begins all bytes
+pub whole_begins : (b piece : List ℕ) (n : ℕ) (r : Parts) → IsRequest (b ++ take n piece) r
+    → Begins (b ++ piece) (length (b ++ take n piece)) r
+whole_begins b piece n r is =
+    let all : (b ++ take n piece) ++ drop n piece ≡ b ++ piece =
+    append_assoc b (take n piece) (drop n piece) ∙ ap (λ w. b ++ w) (take-append-drop n piece) in
+    subst (λ (w : List ℕ). Begins w (length (b ++ take n piece)) r) all
+    (begins_stays (b ++ take n piece) (drop n piece) (length (b ++ take n piece)) r (begins_whole (b ++ take n piece) r is))
+
+-- what was appended, and then more
+pub appends_more : {A : Type 0} (old mid new : Option (List A)) (b c : List A) → Appends old mid b → Appends mid new c → Appends old new (b ++ c)
+appends_more old mid new b c first second = λ xs is. second (xs ++ b) (first xs is) ∙ ap Some (append_assoc xs b c)
+
+pub appends_none : {A : Type 0} (old : Option (List A)) → Appends old old []
+appends_none old = λ xs is. is ∙ ap Some (sym (append-nil xs))
+
+-- nothing stands in what was read so far
+pub record Reading (intake : Intake) (count : ℕ) (old new : Option (List ℕ)) : Type 0 where
+  pub bytes : List ℕ
+  pub fed : Fed intake bytes
+  pub given : Appends old new bytes
+  pub wanting : Wanting bytes
+  pub size : count ≡ length bytes
+
+-- a text of which some was written, and then more
+pub record SentMore (text : List ℕ) (sent : ℕ) (old new : Option (List ℕ)) : Type 0 where
+  pub within : sent ≤ length text
+  pub written : Appends old new (take sent text)
+
+pub sent_more : (text piece : List ℕ) (sent n : ℕ) (old mid new : Option (List ℕ)) → sent ≤ length text → piece ≡ drop sent text
+    → n ≤ length piece → Appends old mid (take sent text) → Appends mid new (take n piece) → SentMore text (sent + n) old new
+sent_more text piece sent n old mid new within is fits first second =
+    let size : length piece ≡ length text - sent = ap length is ∙ length-drop sent text in
+    let joined : take sent text ++ take n piece ≡ take (sent + n) text =
+    ap (λ w. take sent text ++ take n w) is ∙ sym (take-add sent n text) in
+    record {
+      within = omega (arith, within, size, fits);
+      written = subst (λ (w : List ℕ). Appends old new w) joined (appends_more old mid new (take sent text) (take n piece) first second);
+    }
+
+pub le_refl : (n : ℕ) → n ≤ n
+le_refl n = omega arith
+
+pub le_then : (a b c : ℕ) → a ≤ b → b ≤ c → a ≤ c
+le_then a b c first second = omega arith
+
+pub fits_small : (m : ℕ) → m ≤ 32768 → Fits w64 m
+fits_small m small = omega arith
+
+pub falls : (count n : ℕ) → 0 < n → count + n ≤ 32768 → 32769 - (count + n) < 32769 - count
+falls count n some small = omega arith
+
+pub if_ok_at : {A E : Type 0} (P : A → Type 0) (r : Result A E) (x : A) → IfOk r P → r ≡ Ok x → P x
+if_ok_at {A} {E} P r x h is = subst (λ (s : Result A E). IfOk s P) is h
+
+-- the source has ended while nothing stood
+pub ended : (intake : Intake) (count : ℕ) (old mid new input_mid input_new : Option (List ℕ)) → Reading intake count old mid
+    → (new ≡ mid) × IsWhole mid input_mid → input_new ≡ input_mid → Arrives came.Nothing old new input_new
+ended intake count old mid new input_mid input_new r gives same = record {
+  bytes = r.bytes;
+  given = subst (λ (w : Option (List ℕ)). Appends old w r.bytes) (sym gives.0) r.given;
+  stands = r.wanting;
+  ends = λ xs ys is whole. gives.1 xs ys (sym gives.0 ∙ is) (sym same ∙ whole);
+}
+
+-- the front of the room is what was read into it
+pub piece_is : (n k : ℕ) (new rest whole : List ℕ) → whole ≡ take k (new ++ rest) → length new ≡ k → n ≤ length new → take n whole ≡ take n new
+piece_is n k new rest whole is size fits =
+    let inside : n ≤ k = omega (arith, size, fits) in
+    ap (take n) is ∙ take-take n k (new ++ rest) inside ∙ take-append-le n new rest fits
+
+-- a piece was read and fed
+pub record Feeds (intake next : Intake) (count n : ℕ) (answer : Feed) (old new : Option (List ℕ)) : Type 0 where
+  pub bytes : List ℕ
+  pub piece : List ℕ
+  pub some : 0 < n
+  pub size : n ≡ length piece
+  pub count_is : count ≡ length bytes
+  pub given : Appends old new (bytes ++ piece)
+  pub right : IsRight answer bytes piece
+  pub fed : Fed next (taken answer bytes piece)
+
+pub feeds : (intake next : Intake) (count n : ℕ) (answer kind : Feed) (old mid new input : Option (List ℕ)) (room piece : List ℕ)
+    → Reading intake count old mid → Gives (read.Bytes n) input mid new room → piece ≡ take n room
+    → FeedsTo intake piece (Ok answer) next → answer ≡ kind → Feeds intake next count n kind old new
+feeds intake next count n answer kind old mid new input room piece r gives is feed same =
+    let answers : IsRight answer r.bytes piece × Fed next (taken answer r.bytes piece) = feed r.bytes r.fed in
+    let more : Appends mid new piece = subst (λ (w : List ℕ). Appends mid new w) (sym is) gives.2 in
+    let long : length piece ≡ min n (length room) = ap length is ∙ length-take n room in
+    record {
+      bytes = r.bytes;
+      piece = piece;
+      some = gives.0;
+      size = omega (arith, long, gives.1);
+      count_is = r.size;
+      given = appends_more old mid new r.bytes piece r.given more;
+      right = subst (λ (a : Feed). IsRight a r.bytes piece) same answers.0;
+      fed = subst (λ (a : Feed). Fed next (taken a r.bytes piece)) same answers.1;
+    }
+
+pub feeds_more : (intake next : Intake) (count n : ℕ) (old new : Option (List ℕ)) → Feeds intake next count n More old new
+    → Reading next (count + n) old new
+feeds_more intake next count n old new f = record {
+  bytes = f.bytes ++ f.piece;
+  fed = f.fed;
+  given = f.given;
+  wanting = f.right;
+  size = omega (arith, f.size, f.count_is, length-append f.bytes f.piece);
+}
+
+pub feeds_within : (intake next : Intake) (count n : ℕ) (old new : Option (List ℕ)) → Feeds intake next count n More old new
+    → count + n ≤ 32768
+feeds_within intake next count n old new f =
+    let few : length (f.bytes ++ f.piece) ≤ head_limit = wanting_within (f.bytes ++ f.piece) f.right in
+    omega (arith, few, f.size, f.count_is, length-append f.bytes f.piece)
+
+pub feeds_whole : (intake next : Intake) (count n m : ℕ) (old new input : Option (List ℕ)) → Feeds intake next count n (Whole m) old new
+    → Arrives came.Request old new input
+feeds_whole intake next count n m old new input f = record {
+  bytes = f.bytes ++ f.piece;
+  given = f.given;
+  stands = (length (f.bytes ++ take m f.piece), f.right.1.0, whole_begins f.bytes f.piece m f.right.1.0 f.right.1.1);
+  ends = tt;
+}
+
+pub feeds_refused : (intake next : Intake) (count n : ℕ) (fault : Fault) (old new input : Option (List ℕ))
+    → Feeds intake next count n (Refused fault) old new → Arrives (came.Refused fault) old new input
+feeds_refused intake next count n fault old new input f = record {
+  bytes = f.bytes ++ f.piece;
+  given = f.given;
+  stands = f.right;
+  ends = tt;
+}
+
+-- the reply to what stands
+pub record Replies (kind body bytes text : List ℕ) : Type 0 where
+  pub first : First kind body bytes text
+  pub some : text ≡ [] → ⊥
+
+pub replies_hello : (kind body bytes text : List ℕ) → Stands came.Request bytes → text ≡ hello_reply kind body → Replies kind body bytes text
+replies_hello kind body bytes text stands is = record {
+  first = request stands.0 stands.1 stands.2 is;
+  some = λ none. (let clash : hello_reply kind body ≡ [] = sym is ∙ none in cc);
+}
+
+pub replies_fault : (kind body bytes text : List ℕ) (fault : Fault) → Refusal bytes fault → text ≡ fault_reply fault → Replies kind body bytes text
+replies_fault kind body bytes text fault stands is = record {
+  first = refused fault stands is;
+  some = λ none. (let clash : fault_reply fault ≡ [] = sym is ∙ none in cc);
+}
+
+-- the reply is sent
+pub sent : (s : Status) (kind body bytes text : List ℕ) (given_old given_new input : Option (List ℕ)) (reads reads_then : ℕ)
+    (written_old written_new : Option (List ℕ)) (writes writes_then : ℕ)
+    → Appends given_old given_new bytes → Replies kind body bytes text → Sends s text written_old written_new writes writes_then
+    → Ends s kind body given_old given_new input reads reads_then written_old written_new writes writes_then
+sent status.Done kind body bytes text given_old given_new input reads reads_then written_old written_new writes writes_then given reply h = record {
+  bytes = bytes;
+  text = text;
+  given = given;
+  written = h;
+  first = reply.first;
+  ends = λ none. absurd (reply.some none);
+}
+sent status.NoMemory kind body bytes text given_old given_new input reads reads_then written_old written_new writes writes_then given reply h =
+    inr (record { bytes = bytes; text = text; given = given; first = reply.first; part = h })
+sent status.Usage kind body bytes text given_old given_new input reads reads_then written_old written_new writes writes_then given reply h = absurd h
+sent (status.File why) kind body bytes text given_old given_new input reads reads_then written_old written_new writes writes_then given reply h = absurd h
+sent (status.Stack line rule) kind body bytes text given_old given_new input reads reads_then written_old written_new writes writes_then given reply h = absurd h
+sent status.SourceFault kind body bytes text given_old given_new input reads reads_then written_old written_new writes writes_then given reply h = absurd h
+sent status.SinkFault kind body bytes text given_old given_new input reads reads_then written_old written_new writes writes_then given reply h =
+    (h.1, record { bytes = bytes; text = text; given = given; first = reply.first; part = h.0 })
+
+-- what is written is determined by what came
+pub one_first : (kind body bytes text other : List ℕ) → First kind body bytes text → First kind body bytes other → text ≡ other
+one_first kind body bytes text other (refused f a x) (refused g b y) = x ∙ ap fault_reply (refusal_unique bytes f g a b) ∙ sym y
+one_first kind body bytes text other (refused f a x) (request n r b y) = absurd (begins_not_refused bytes n r f b a)
+one_first kind body bytes text other (refused f a x) (wanting b y) = absurd (b.1 f a)
+one_first kind body bytes text other (request n r a x) (refused f b y) = absurd (begins_not_refused bytes n r f a b)
+one_first kind body bytes text other (request n r a x) (request m q b y) = x ∙ sym y
+one_first kind body bytes text other (request n r a x) (wanting b y) = absurd (b.0 n r a)
+one_first kind body bytes text other (wanting a x) (refused f b y) = absurd (a.1 f b)
+one_first kind body bytes text other (wanting a x) (request n r b y) = absurd (a.0 n r b)
+one_first kind body bytes text other (wanting a x) (wanting b y) = x ∙ sym y

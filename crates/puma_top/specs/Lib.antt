@@ -1,0 +1,6 @@
+pub mod Once
+pub mod Quiet
+pub mod Reply
+pub mod Stack
+pub mod Status
+pub mod Words

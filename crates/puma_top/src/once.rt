@@ -1,0 +1,93 @@
+// One connection: what comes is read, and the first thing that stands in it is answered.
+ghost use Rattle.std.specs.Prelude.{◌≡◌, length};
+ghost use Rattle.puma_top.specs.Once.{Ends, TakesIn, Sends};
+
+use crate::Status;
+use crate::reply::{fault_reply, hello_reply};
+use crate::stack::Hello;
+use message_framing::{Feed, Intake};
+use rack_outside::{Sink, SinkWrite, Source, SourceRead};
+use rack_types::{Fault, Limits};
+use std::alloc::Global;
+
+// The bytes that one read may give.
+const PIECE: usize = 16_384;
+
+/// What came first.
+#[derive(Clone, Copy)]
+pub(crate) enum Came {
+    /// A whole request.
+    Request,
+    /// Bytes that are refused.
+    Refused(Fault),
+    /// The end of the input, and neither of the two before it.
+    Nothing,
+}
+
+/// Reads until a request or a refusal stands, or to the input's end, and writes the one reply to it.
+pub(crate) fn once<S: Source, K: Sink>(
+    alloc: Global,
+    hello: Hello<'_>,
+    src: &mut S,
+    out: &mut K,
+) -> Status
+    ensures { Ends result hello.entry.kind.now hello.entry.body.now
+        (S.given src.old) (S.given src.new) (S.input src.new) (S.faults src.old) (S.faults src.new)
+        (K.written out.old) (K.written out.new) (K.faults out.old) (K.faults out.new) }
+{
+    let came = match take_in(alloc, src) {
+        Ok(came) => came,
+        Err(status) => return status,
+    };
+    let reply = match came {
+        Came::Request => hello_reply(alloc, hello),
+        Came::Refused(fault) => fault_reply(alloc, fault),
+        Came::Nothing => return Status::Done,
+    };
+    match reply {
+        Ok(text) => send(out, &text),
+        Err(_) => Status::NoMemory,
+    }
+}
+
+// Reads until something stands. The pieces lie in one room, which is made once.
+fn take_in<S: Source>(alloc: Global, src: &mut S) -> Result<Came, Status>
+    ensures { TakesIn result (S.given src.old) (S.given src.new) (S.input src.new) (S.faults src.old) (S.faults src.new) }
+{
+    let Ok(mut intake) = Intake::new(alloc, Limits::stock()) else {
+        return Err(Status::NoMemory);
+    };
+    let Ok(mut room) = vec![in alloc; 0u8; PIECE] else {
+        return Err(Status::NoMemory);
+    };
+    // What was fed so far: a head that has not ended has few bytes, so the loop ends.
+    let mut count = 0;
+    'pieces: loop {
+        let n = match src.read(room.as_mut_slice()) {
+            SourceRead::Bytes(n) => n,
+            SourceRead::End => return Ok(Came::Nothing),
+            SourceRead::Failed => return Err(Status::SourceFault),
+        };
+        match intake.feed(&room[..n]) {
+            Ok(Feed::More) => count += n,
+            Ok(Feed::Whole(_)) => return Ok(Came::Request),
+            Ok(Feed::Refused(fault)) => return Ok(Came::Refused(fault)),
+            Err(_) => return Err(Status::NoMemory),
+        }
+    }
+}
+
+// Writes the text, in one write where the sink takes it whole.
+fn send<K: Sink>(out: &mut K, text: &[u8]) -> Status
+    ensures { Sends result text.now (K.written out.old) (K.written out.new) (K.faults out.old) (K.faults out.new) }
+{
+    let mut sent = 0;
+    while sent < text.len() {
+        match out.write(&text[sent..]) {
+            SinkWrite::Took(n) => sent += n,
+            SinkWrite::Failed => return Status::SinkFault,
+            SinkWrite::NoMemory => return Status::NoMemory,
+        }
+    }
+    Status::Done
+}

@@ -1,0 +1,51 @@
+// How a command ended.
+ghost use Rattle.std.specs.Prelude.{◌≡◌};
+
+/// Why a file was not read.
+#[derive(Clone, Copy, Debug, PartialEq, Eq)]
+pub enum FileWhy {
+    /// There is no such file.
+    Absent,
+    /// The file has more bytes than the limit.
+    Long,
+    /// The reading failed.
+    Failed,
+}
+
+/// How a command ended.
+#[derive(Clone, Copy, Debug, PartialEq, Eq)]
+pub enum Status {
+    /// The connection was served to its end.
+    Done,
+    /// Memory was refused.
+    NoMemory,
+    /// The words are no command of this program.
+    Usage,
+    /// The file that the words name was not read.
+    File(FileWhy),
+    /// The stack file breaks this rule, first in this line. Lines are counted from 1.
+    Stack { line: u32, rule: u8 },
+    /// A read of the connection failed.
+    SourceFault,
+    /// A write to the connection failed.
+    SinkFault,
+}
+
+impl Status {
+    ghost use Rattle.puma_top.specs.Status.{exit_code};
+
+    /// The exit status that the program ends with.
+    pub fn code(&self) -> u8
+        ensures { result ≡ exit_code self.now }
+    {
+        match self {
+            Status::Done => 0,
+            Status::NoMemory => 1,
+            Status::Usage => 2,
+            Status::File(_) => 3,
+            Status::Stack { .. } => 4,
+            Status::SourceFault => 6,
+            Status::SinkFault => 7,
+        }
+    }
+}

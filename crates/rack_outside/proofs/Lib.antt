@@ -1,0 +1,2 @@
+mod CabinetLemmas
+mod FeedLemmas

@@ -1,0 +1,28 @@
+//! What a server reads and writes, as traits with counts of faults, and objects in memory that meet them.
+//!
+//! Each trait has a count of faults that never falls. An answer `Failed` comes only where that count
+//! rose in that call, so that a contract can name the cause. What an object has given, left or taken
+//! is told by the objects in memory and not by the real ones: a member that tells is an `Option`, and
+//! `None` claims nothing.
+#![tactic(auto)]
+
+mod files;
+mod mem_files;
+mod mem_sink;
+mod mem_source;
+mod places;
+mod sink;
+mod source;
+mod sure_sink;
+mod sure_source;
+#[cfg(test)]
+mod tests;
+
+pub use files::{FileRead, Files};
+pub use mem_files::MemFiles;
+pub use mem_sink::MemSink;
+pub use mem_source::MemSource;
+pub use sink::{Sink, SinkWrite};
+pub use source::{Source, SourceRead};
+pub use sure_sink::SureSink;
+pub use sure_source::SureSource;

@@ -1,0 +1,5 @@
+pub mod CaseLemmas
+pub mod Computed
+pub mod DecimalLemmas
+pub mod HostLemmas
+pub mod ListLemmas

@@ -1,0 +1,12 @@
+use Rattle.std.proofs.Common.{length, sym, arith, rules}
+use Rattle.std.proofs.lemmas.List.Sums.{prefix_len_is}
+use Rattle.rack_text.specs.Host.{is_address_byte}
+use Rattle.rack_text.proofs.host.address_run.Goals as goal
+
+pub returns-in-Some-clause-run : goal.returns-in-Some-clause-run
+returns-in-Some-clause-run c =
+    sym (prefix_len_is is_address_byte c.args.text.now c.in-Some.end 0 (search rules) (search rules) (search rules))
+
+pub returns-in-None-clause-run : goal.returns-in-None-clause-run
+returns-in-None-clause-run c =
+    sym (prefix_len_is is_address_byte c.args.text.now (length c.args.text.now) 0 (omega arith) (search rules) (search rules))

@@ -1,0 +1,4 @@
+pub mod Case
+pub mod Decimal
+pub mod Host
+pub mod Lists

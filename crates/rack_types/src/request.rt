@@ -1,0 +1,131 @@
+// A request as it came, lent in parts.
+ghost use Rattle.std.specs.Prelude.{◌≡◌, ◌≤◌, ◌<◌, Some, drop, length, map, slice_get, vec_len};
+ghost use Rattle.rack_types.specs.Request.{SpansFit, parts_at};
+
+use crate::Version;
+use httparse::spans::{HeaderSpan, Span};
+use std::marker::Model;
+
+/// Where the parts of a head are in its bytes.
+#[derive(Clone, Copy, Debug)]
+pub struct Spans {
+    /// Where the head text begins: behind the empty lines that were skipped. The other spans count
+    /// from there.
+    pub start: usize,
+    pub method: Span,
+    /// The path. It is empty only where the target has an authority and no path.
+    pub path: Span,
+    /// What stands behind the first `?`, empty where there is none.
+    pub query: Span,
+    /// The authority of an absolute target.
+    pub authority: Option<Span>,
+    pub version: Version,
+    /// How many fields the head has.
+    pub fields: usize,
+}
+
+/// A whole request. It lends its parts from the bytes that came, and copies none of them.
+///
+/// A contract sees it as its `Parts`.
+#[derive(Drop)]
+pub struct Request {
+    head: Vec<u8>,
+    fields: Vec<HeaderSpan>,
+    spans: Spans,
+    body: Vec<u8>,
+    chunked: bool,
+}
+
+impl Model for Request {
+    ghost use Rattle.std.specs.Prelude.{◌≤◌, drop, vec_len};
+    ghost use Rattle.rack_types.specs.Request.{Parts, SpansFit, parts_at};
+
+    ghost Value = { Parts };
+
+    ghost view = { λ r. parts_at (drop r.spans.start r.head.items) r.fields.items r.spans r.body.items r.chunked };
+
+    ghost invariant = { λ r. (r.spans.start ≤ vec_len r.head) × SpansFit (drop r.spans.start r.head.items) r.fields.items r.spans };
+}
+
+impl Request {
+    /// The request whose head has these parts, with this body. It takes no memory.
+    pub fn new(
+        head: Vec<u8>,
+        fields: Vec<HeaderSpan>,
+        spans: Spans,
+        body: Vec<u8>,
+        chunked: bool,
+    ) -> Request
+        requires start { spans.start ≤ vec_len head }
+        requires fit { SpansFit (drop spans.start head.items) fields.items spans }
+        ensures { result ≡ parts_at (drop spans.start head.items) fields.items spans body.items chunked }
+    {
+        Request {
+            head,
+            fields,
+            spans,
+            body,
+            chunked,
+        }
+    }
+
+    /// The method, a token.
+    pub fn method(&self) -> &[u8]
+        ensures { result.now ≡ self.now.method }
+    {
+        self.spans.method.of(text_of(&self.head, self.spans.start))
+    }
+
+    /// The path as it came, not decoded: it begins with `/`, or is `*` alone.
+    pub fn path(&self) -> &[u8]
+        ensures { result.now ≡ self.now.path }
+    {
+        let path = self.spans.path.of(text_of(&self.head, self.spans.start));
+        if path.is_empty() { b"/" } else { path }
+    }
+
+    /// What stands behind the first `?` of the target, empty where there is none.
+    pub fn query(&self) -> &[u8]
+        ensures { result.now ≡ self.now.query }
+    {
+        self.spans.query.of(text_of(&self.head, self.spans.start))
+    }
+
+    /// The version that the request line names.
+    pub fn version(&self) -> Version
+        ensures { result ≡ self.now.version }
+    {
+        self.spans.version
+    }
+
+    /// How many fields the head has.
+    pub fn field_count(&self) -> usize
+        ensures { result ≡ length self.now.fields }
+    {
+        self.spans.fields
+    }
+
+    /// The name of the field at this place, a token, with its letters as they came.
+    pub fn field_name(&self, i: usize) -> &[u8]
+        requires { i < length self.now.fields }
+        ensures { slice_get (map (λ f. f.0) self.now.fields) i ≡ Some result.now }
+    {
+        self.fields[i].name.of(text_of(&self.head, self.spans.start))
+    }
+
+    /// The value of the field at this place, without the white space around it.
+    pub fn field_value(&self, i: usize) -> &[u8]
+        requires { i < length self.now.fields }
+        ensures { slice_get (map (λ f. f.1) self.now.fields) i ≡ Some result.now }
+    {
+        self.fields[i].value.of(text_of(&self.head, self.spans.start))
+    }
+}
+
+// The head text, which begins behind the empty lines that were skipped.
+fn text_of(head: &[u8], start: usize) -> &[u8]
+    requires { start ≤ length head.now }
+    ensures { result.now ≡ drop start head.now }
+{
+    &head[start..]
+}
