@@ -37,7 +37,17 @@ def refusal(fault):
     line = {
         "F0": b"501 Not Implemented",
         "F1": b"431 Request Header Fields Too Large",
+        "F2": b"431 Request Header Fields Too Large",
         "F3": b"400 Bad Request",
+        "F4": b"501 Not Implemented",
+        "F5": b"400 Bad Request",
+        "F6": b"400 Bad Request",
+        "F7": b"400 Bad Request",
+        "F8": b"400 Bad Request",
+        "F9": b"400 Bad Request",
+        "F10": b"501 Not Implemented",
+        "F11": b"400 Bad Request",
+        "F12": b"413 Content Too Large",
     }[fault]
     head = b"HTTP/1.1 %s\r\nx-puma-fault: %s\r\ncontent-length: 0\r\nconnection: close\r\n\r\n"
     return head % (line, fault.encode())
@@ -360,24 +370,24 @@ def check_requests(checks):
         ("one byte longer", refused("F1"), GET.replace(b"/ ", b"/" + b"a" * (long_target + 1) + b" ")),
         ("HTTP/1.0", refused("F0"), b"GET / HTTP/1.0\r\n\r\n"),
         ("HTTP/1.0 with a host", refused("F0"), b"GET / HTTP/1.0\r\nHost: a\r\n\r\n"),
-        ("no field", refused("F0"), get + b"\r\n"),
-        ("another field", refused("F0"), get + b"Hosts: a\r\n\r\n"),
-        ("two fields", refused("F0"), get + b"Host: a\r\nConnection: close\r\n\r\n"),
-        ("two hosts", refused("F0"), get + b"Host: a\r\nHost: a\r\n\r\n"),
-        ("an empty host", refused("F0"), get + b"Host:\r\n\r\n"),
-        ("a host with a capital", refused("F0"), get + b"Host: A\r\n\r\n"),
-        ("a host with a digit", refused("F0"), get + b"Host: a1\r\n\r\n"),
-        ("a host with a port", refused("F0"), get + b"Host: a:80\r\n\r\n"),
-        ("another method", refused("F0"), GET.replace(b"GET", b"POST")),
-        ("a longer method", refused("F0"), GET.replace(b"GET", b"GETS")),
-        ("a method in small letters", refused("F0"), GET.replace(b"GET", b"get")),
-        ("a target with a scheme", refused("F0"), GET.replace(b"/ ", b"http://a/ ")),
-        ("the target of all", refused("F0"), GET.replace(b"/ ", b"* ")),
-        ("a target with a fragment", refused("F0"), GET.replace(b"/ ", b"/#a ")),
-        ("a target with a letter above 127", refused("F0"), GET.replace(b"/ ", b"/\xc3\xa9 ")),
-        ("a host above 127", refused("F0"), get + b"Host: \xff\r\n\r\n"),
-        ("64 fields", refused("F0"), get + b"Host: a\r\n" * 64 + b"\r\n"),
-        ("65 fields", refused("F3"), get + b"Host: a\r\n" * 65 + b"\r\n"),
+        ("no host", refused("F6"), get + b"\r\n"),
+        ("another field", refused("F6"), get + b"Hosts: a\r\n\r\n"),
+        ("a request that closes", refused("F0"), get + b"Host: a\r\nConnection: close\r\n\r\n"),
+        ("two hosts", refused("F6"), get + b"Host: a\r\nHost: a\r\n\r\n"),
+        ("an empty host", ANSWERED, get + b"Host:\r\n\r\n"),
+        ("a host with a capital", ANSWERED, get + b"Host: A\r\n\r\n"),
+        ("a host with a digit", ANSWERED, get + b"Host: a1\r\n\r\n"),
+        ("a host with a port", ANSWERED, get + b"Host: a:80\r\n\r\n"),
+        ("another method", ANSWERED, GET.replace(b"GET", b"POST")),
+        ("a longer method", ANSWERED, GET.replace(b"GET", b"GETS")),
+        ("a method in small letters", ANSWERED, GET.replace(b"GET", b"get")),
+        ("a target with a scheme", ANSWERED, GET.replace(b"/ ", b"http://a/ ")),
+        ("the target of all", refused("F5"), GET.replace(b"/ ", b"* ")),
+        ("a target with a fragment", refused("F5"), GET.replace(b"/ ", b"/#a ")),
+        ("a target with a letter above 127", refused("F5"), GET.replace(b"/ ", b"/\xc3\xa9 ")),
+        ("a host above 127", refused("F6"), get + b"Host: \xff\r\n\r\n"),
+        ("64 hosts", refused("F6"), get + b"Host: a\r\n" * 64 + b"\r\n"),
+        ("65 hosts", refused("F2"), get + b"Host: a\r\n" * 65 + b"\r\n"),
         ("a target that isn't UTF-8", refused("F3"), GET.replace(b"/ ", b"/\xff ")),
         ("a target with the byte 127", refused("F3"), GET.replace(b"/ ", b"/\x7f ")),
         ("two spaces", refused("F3"), GET.replace(b"GET ", b"GET  ")),
@@ -398,6 +408,82 @@ def check_requests(checks):
         ("a line in front of a request", refused("F3"), b"x\r\n" + GET),
     ]:
         checks.wants(name, want, "once", "hello.stack", stdin=stdin)
+
+
+def check_heads(checks):
+    checks.begin("hostile heads")
+    curl = (b"GET /index.html?x=1 HTTP/1.1\r\nHost: localhost:9292\r\n"
+            b"User-Agent: curl/8.5.0\r\nAccept: */*\r\n\r\n")
+    checks.wants("a head as curl writes it", ANSWERED, "once", "hello.stack", stdin=curl)
+    length, coding = b"Content-Length: ", b"Transfer-Encoding: "
+    for name, want, line, fields in [
+        ("a length and chunks", "F8", b"POST / HTTP/1.1", [length + b"1", coding + b"chunked"]),
+        ("chunks and a length", "F8", b"POST / HTTP/1.1", [coding + b"chunked", length + b"0"]),
+        ("gzip, chunked", "F10", b"POST / HTTP/1.1", [coding + b"gzip, chunked"]),
+        ("chunked, gzip", "F9", b"POST / HTTP/1.1", [coding + b"chunked, gzip"]),
+        ("chunked twice in a list", "F10", b"POST / HTTP/1.1", [coding + b"chunked, chunked"]),
+        ("chunked in two fields", "F10", b"POST / HTTP/1.1", [coding + b"chunked", coding + b"chunked"]),
+        ("xchunked", "F9", b"POST / HTTP/1.1", [coding + b"xchunked"]),
+        ("no coding but a comma", "F9", b"POST / HTTP/1.1", [coding + b","]),
+        ("an empty coding field", "F9", b"POST / HTTP/1.1", [coding]),
+        ("gzip and then chunked in fields of their own", "F10", b"POST / HTTP/1.1", [coding + b"gzip", coding + b"chunked"]),
+        ("chunked and then gzip in fields of their own", "F9", b"POST / HTTP/1.1", [coding + b"chunked", coding + b"gzip"]),
+        ("chunks, which are not built", "F0", b"POST / HTTP/1.1", [coding + b"chunked"]),
+        ("chunks in capitals, with white space and empty elements", "F0", b"POST / HTTP/1.1", [coding + b", \tCHUNKED ,,"]),
+        ("chunks in HTTP/1.0", "F7", b"POST / HTTP/1.0", [coding + b"chunked"]),
+        ("codings in HTTP/1.0 with a length", "F7", b"POST / HTTP/1.0", [coding + b"gzip", length + b"1"]),
+        ("a space in front of the colon of a coding", "F3", b"POST / HTTP/1.1", [b"Transfer-Encoding : chunked"]),
+        ("a field line that begins with a space", "F3", b"POST / HTTP/1.1", [b" Transfer-Encoding: chunked"]),
+        ("two lengths", "F11", b"POST / HTTP/1.1", [length + b"5", length + b"5"]),
+        ("a length with a sign", "F11", b"POST / HTTP/1.1", [length + b"+5"]),
+        ("a list of lengths", "F11", b"POST / HTTP/1.1", [length + b"5, 5"]),
+        ("no length", "F11", b"POST / HTTP/1.1", [length]),
+        ("a length in hexadecimal", "F11", b"POST / HTTP/1.1", [length + b"0x5"]),
+        ("a length of 0", None, b"POST / HTTP/1.1", [length + b"0"]),
+        ("forty zeros", None, b"POST / HTTP/1.1", [length + b"0" * 40]),
+        ("forty digits that are zeros but the last", "F0", b"POST / HTTP/1.1", [length + b"0" * 39 + b"7"]),
+        ("forty nines", "F12", b"POST / HTTP/1.1", [length + b"9" * 40]),
+        ("the largest body", "F0", b"POST / HTTP/1.1", [length + b"1048576"]),
+        ("one byte more", "F12", b"POST / HTTP/1.1", [length + b"1048577"]),
+        ("a second host", "F6", b"POST / HTTP/1.1", [b"Host: a"]),
+        ("a second host in front of a bad length", "F6", b"POST / HTTP/1.1", [b"hOST: b", length + b"x"]),
+        ("64 lines", None, b"GET / HTTP/1.1", [b"X: 1"] * 63),
+        ("65 lines", "F2", b"GET / HTTP/1.1", [b"X: 1"] * 64),
+        ("65 lines that are no fields", "F2", b"GET / HTTP/1.1", [b"x"] * 64),
+        ("64 lines of which one is no field", "F3", b"GET / HTTP/1.1", [b"X: 1"] * 62 + [b"x"]),
+        ("CONNECT", "F4", b"CONNECT a:443 HTTP/1.1", []),
+        ("CONNECT in small letters", "F5", b"connect a:443 HTTP/1.1", []),
+        ("the asterisk of OPTIONS", None, b"OPTIONS * HTTP/1.1", []),
+        ("the asterisk of another method", "F5", b"PUT * HTTP/1.1", []),
+        ("an absolute target without a path", None, b"GET http://b?x HTTP/1.1", []),
+        ("an absolute target in capitals", None, b"GET HTTPS://b:8/x HTTP/1.1", []),
+        ("an absolute target without a host", "F5", b"GET http:///x HTTP/1.1", []),
+        ("an absolute target with user information", "F5", b"GET http://u@b/ HTTP/1.1", []),
+        ("another scheme", "F5", b"GET ftp://b/ HTTP/1.1", []),
+        ("a port of 65,535", None, b"GET http://b:65535/ HTTP/1.1", []),
+        ("a port of 65,536", "F5", b"GET http://b:65536/ HTTP/1.1", []),
+        ("a target without a slash", "F5", b"GET a HTTP/1.1", []),
+        ("a request that closes by a list", "F0", b"GET / HTTP/1.1", [b"Connection: a, CLOSE"]),
+        ("a request that names close in another word", None, b"GET / HTTP/1.1", [b"Connection: closed"]),
+        ("HEAD", "F0", b"HEAD / HTTP/1.1", []),
+        ("HTTP/1.0 that is kept alive", "F0", b"GET / HTTP/1.0", [b"Connection: keep-alive"]),
+    ]:
+        text = b"\r\n".join([line, b"Host: a", *fields, b"", b""])
+        checks.wants(name, ANSWERED if want is None else refused(want), "once", "hello.stack", stdin=text)
+    get = b"GET / HTTP/1.1\r\n"
+    for name, want, host in [
+        ("the address in brackets", None, b"[::1]:80"), ("brackets without an end", "F6", b"[::1"),
+        ("empty brackets", "F6", b"[]"), ("a host that is a port alone", "F6", b":80"),
+        ("an empty port", None, b"a:"), ("a port with zeros in front", None, b"a:00080"),
+        ("the largest port", None, b"a:65535"), ("a larger port", "F6", b"a:65536"),
+        ("a port with a sign", "F6", b"a:+1"), ("a space in a host", "F6", b"a b"), ("two hosts in one", "F6", b"a,b/"),
+    ]:
+        checks.wants(name, ANSWERED if want is None else refused(want), "once", "hello.stack",
+                     stdin=get + b"Host: " + host + b"\r\n\r\n")
+    skipped = b"\r\n" * ((HEAD_LIMIT - len(GET)) // 2)
+    room = HEAD_LIMIT - len(GET) - len(skipped)
+    checks.wants("empty lines that fill the limit of a head", ANSWERED, "once", "hello.stack", stdin=skipped + b"\n" * room + GET)
+    checks.wants("one empty line more", refused("F1"), "once", "hello.stack", stdin=skipped + b"\n" * (room + 1) + GET)
 
 
 def check_cuts(checks):
@@ -511,7 +597,7 @@ def main():
     os.chdir(folder)
     try:
         write("hello.stack", HELLO)
-        for group in (check_shell, check_words, check_files, check_stacks, check_requests, check_cuts,
+        for group in (check_shell, check_words, check_files, check_stacks, check_requests, check_heads, check_cuts,
                       check_hostile, check_outside, check_interruptions):
             group(checks)
         checks.end()

@@ -1,85 +1,50 @@
--- The parts of a head, at the parser's places.
-use Rattle.std.proofs.Common.{◌≡◌, ◌≢◌, ℕ, ◌+◌, ◌-◌, ◌<◌, ◌≤◌, Bool, true, false, List, [], ◌∷◌, length, take, drop, min, ◌⊎◌, inl, inr, Option, None, Some, IsSome, MatchOption, refl, ap, sym, ◌∙◌, arith, subst}
+-- The parts of a target, at the places that memchr found.
+use Rattle.std.proofs.Common.{◌≡◌, ℕ, ◌+◌, ◌-◌, ◌≤◌, Bool, List, length, take, drop, min, inl, inr, ap, sym, ◌∙◌, arith, length-drop}
 use Rattle.std.specs.List.{slice_range, position_or_len, before_first, after_first}
-use Rattle.std.proofs.lemmas.List.Sums.{position_or_len_is}
-use Rattle.memchr.specs.Find.{IsFirstByte, Nowhere, NoneBefore, Passes, is_byte}
-use Rattle.message_framing.specs.Head.{is_question, is_built, head_fault, request_of, IsHead, IsNoHead}
 use Rattle.std.proofs.lemmas.Bool.{cases_lt}
-use Rattle.std.proofs.lemmas.List.{drop_all}
-use Rattle.httparse.specs.declared.spans.HeaderSpan.{HeaderSpan}
-use Rattle.httparse.specs.declared.spans.RequestSpans.{RequestSpans}
-use Rattle.httparse.specs.Grammar.{RequestHead}
-use Rattle.httparse.specs.Spans.{IsRequestAt}
-use Rattle.rack_types.specs.declared.request.Spans.{Spans}
-use Rattle.rack_types.specs.declared.fault.Fault.TheVariants.{F}
-use Rattle.rack_types.specs.Request.{Parts, parts_at}
-use Rattle.message_framing.specs.HeadText.{head_text}
-use Rattle.message_framing.specs.Reads.{ReadsHead}
-use Rattle.message_framing.specs.Request.{HeadRefusal, IsGoodHead}
+use Rattle.std.proofs.lemmas.List.{drop_all, drop-drop, take_all}
+use Rattle.std.proofs.lemmas.List.Sums.{position_or_len_is}
+use Rattle.memchr.specs.Find.{Nowhere, NoneBefore, Passes}
+use Rattle.message_framing.specs.Target.{is_question}
 use Rattle.message_framing.proofs.ScanLemmas.{not_true}
-use Rattle.message_framing.proofs.SliceLemmas.{slice_front, slice_rest, length-slice}
+use Rattle.message_framing.proofs.SliceLemmas.{slice_front}
 
--- the first place that memchr found
-pub question_found : (w : List ℕ) (k : ℕ) → NoneBefore (Passes (is_byte 63) w) 0 (length w) k → Passes (is_byte 63) w k
-    → k ≡ position_or_len is_question w
-question_found w k first here =
+-- the first place whose byte passes a test, as memchr found it
+pub place_found : (p : ℕ → Bool) (w : List ℕ) (k : ℕ) → NoneBefore (Passes p w) 0 (length w) k → Passes p w k
+    → k ≡ position_or_len p w
+place_found p w k first here =
     let fits : k ≤ length w = omega (arith, first.high) in
-    sym (position_or_len_is is_question w k 0 fits (λ j below. not_true _ (first.before j (omega arith) below)) (λ _. here))
+    sym (position_or_len_is p w k 0 fits (λ j below. not_true _ (first.before j (omega arith) below)) (λ _. here))
 
 -- memchr found none
-pub question_missing : (w : List ℕ) → Nowhere (Passes (is_byte 63) w) 0 (length w) → length w ≡ position_or_len is_question w
-question_missing w none =
-    sym (position_or_len_is is_question w (length w) 0 (omega arith) (λ j below. not_true _ (none j (omega arith) below)) (λ past. absurd (omega (arith, past))))
+pub place_missing : (p : ℕ → Bool) (w : List ℕ) → Nowhere (Passes p w) 0 (length w) → length w ≡ position_or_len p w
+place_missing p w none =
+    sym (position_or_len_is p w (length w) 0 (omega arith) (λ j below. not_true _ (none j (omega arith) below)) (λ past. absurd (omega (arith, past))))
 
--- the path and the query of a target that stands from s to e
-pub path_at : (w target : List ℕ) (s e n : ℕ) → slice_range w s e ≡ target → s ≤ e → e ≤ length w
-    → n ≡ position_or_len is_question target → n ≤ length target → slice_range w s (s + n) ≡ before_first is_question target
-path_at w target s e n is order fits place within =
-    let size : length target ≡ e - s = ap length (sym is) ∙ length-slice w s e order fits in
-    let inside : s + n ≤ e = omega (arith, size) in
-    slice_front w s e n inside ∙ ap (take n) is ∙ ap (λ k. take k target) place
+-- the rest of a list, up to its end
+pub whole_rest : (w : List ℕ) (s : ℕ) → s ≤ length w → slice_range w s (length w) ≡ drop s w
+whole_rest w s fits = take_all (length w - s) (drop s w) (omega (arith, length-drop s w))
 
-pub query_at : (w target : List ℕ) (s e n q : ℕ) → slice_range w s e ≡ target → s ≤ e → e ≤ length w
-    → n ≡ position_or_len is_question target → n ≤ length target → q ≡ min e (s + n + 1) → slice_range w q e ≡ after_first is_question target
-query_at w target s e n q is order fits place within cut =
-    let size : length target ≡ e - s = ap length (sym is) ∙ length-slice w s e order fits in
-    elim (cases_lt e (s + n + 1)) [
-      inr inside ↦
-      let here : q ≡ s + (n + 1) = omega (arith, cut, inside) in
-      let room : s + (n + 1) ≤ e = omega (arith, inside) in
-      ap (λ k. slice_range w k e) here ∙ slice_rest w s e (n + 1) room ∙ ap (drop (n + 1)) is ∙ ap (λ k. drop (k + 1) target) place
-    | inl past ↦
-      let here : q ≡ e = omega (arith, cut, past) in
-      let past_end : length target ≤ n + 1 = omega (arith, size, past) in
-      ap (λ k. slice_range w k e) here ∙ empty_slice w e ∙ sym (drop_all (n + 1) target past_end) ∙ ap (λ k. drop (k + 1) target) place
-    ]
-  where
-    empty_slice : (w : List ℕ) (e : ℕ) → slice_range w e e ≡ []
-    empty_slice w e = let none : e - e ≡ 0 = omega arith in ap (λ k. take k (drop e w)) none
+-- a path that begins at `from` and ends at its first `?`
+pub path_at : (w : List ℕ) (from n : ℕ) → from ≤ length w → n ≡ position_or_len is_question (drop from w) → n ≤ length (drop from w)
+    → slice_range w from (from + n) ≡ before_first is_question (drop from w)
+path_at w from n fits place within =
+    let inside : from + n ≤ length w = omega (arith, within, length-drop from w) in
+    slice_front w from (length w) n inside ∙ ap (take n) (whole_rest w from fits) ∙ ap (λ k. take k (drop from w)) place
 
--- a head that is read and not built is refused
-pub unbuilt : (text bytes : List ℕ) (places : List HeaderSpan) (s : RequestSpans) (built : Bool)
-    → ReadsHead text places s → ((h : RequestHead) → IsRequestAt text places s h → built ≡ is_built h)
-    → built ≡ false → text ≡ head_text bytes → HeadRefusal (head_text bytes) (F 0)
-unfolding head_fault
-unbuilt text bytes places s built reads tells never is =
-    let h = reads.head.0 in
-    let none : is_built h ≡ false = sym (tells h reads.head.2) ∙ never in
-    let fault : head_fault h ≡ Some (F 0) = rw none refl in
-    inr (h, subst (λ (t : List ℕ). IsHead t h) is reads.head.1, fault)
-
--- a head that is read and built is a request's
-pub built_head : (text bytes : List ℕ) (places : List HeaderSpan) (s : RequestSpans) (built : Bool) (spans : Spans) (r : Parts)
-    → ReadsHead text places s → ((h : RequestHead) → IsRequestAt text places s h → built ≡ is_built h)
-    → built ≡ true → ((h : RequestHead) → IsRequestAt text places s h → parts_at text places spans [] false ≡ request_of h)
-    → r ≡ parts_at text places spans [] false → text ≡ head_text bytes → IsGoodHead (head_text bytes) r
-unfolding head_fault
-built_head text bytes places s built spans r reads tells here parts made is =
-    let h = reads.head.0 in
-    let good : is_built h ≡ true = sym (tells h reads.head.2) ∙ here in
-    let fault : head_fault h ≡ None = rw good refl in
-    (h, subst (λ (t : List ℕ). IsHead t h) is reads.head.1, fault, made ∙ parts h reads.head.2)
-
--- a text that is no head is refused
-pub headless : (text bytes : List ℕ) → IsNoHead text → text ≡ head_text bytes → HeadRefusal (head_text bytes) (F 3)
-headless text bytes none is = inl (subst (λ (t : List ℕ). IsNoHead t) is none, refl)
+-- the query behind it
+pub query_at : (w : List ℕ) (from n q : ℕ) → from ≤ length w → n ≡ position_or_len is_question (drop from w) → n ≤ length (drop from w)
+    → q ≡ min (length w) (from + n + 1) → slice_range w q (length w) ≡ after_first is_question (drop from w)
+query_at w from n q fits place within cut = elim (cases_lt (length w) (from + n + 1)) [
+  | inr inside ↦
+      let here : q ≡ from + (n + 1) = omega (arith, cut, inside) in
+      let room : from + (n + 1) ≤ length w = omega (arith, inside) in
+      ap (λ k. slice_range w k (length w)) here ∙ whole_rest w (from + (n + 1)) room
+      ∙ sym (drop-drop (n + 1) from w) ∙ ap (λ k. drop (k + 1) (drop from w)) place
+  | inl past ↦
+      let here : q ≡ length w = omega (arith, cut, past) in
+      let past_end : length (drop from w) ≤ n + 1 = omega (arith, past, length-drop from w) in
+      let order : length w ≤ length w = omega arith in
+      ap (λ k. slice_range w k (length w)) here ∙ whole_rest w (length w) order ∙ drop_all (length w) w order
+      ∙ sym (drop_all (n + 1) (drop from w) past_end) ∙ ap (λ k. drop (k + 1) (drop from w)) place
+]

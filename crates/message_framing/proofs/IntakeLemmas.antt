@@ -1,5 +1,5 @@
 -- What an intake holds behind each answer.
-use Rattle.std.proofs.Common.{◌≡◌, ◌≢◌, ℕ, suc, ◌+◌, ◌-◌, ◌<◌, ◌≤◌, List, [], ◌∷◌, ◌++◌, length, take, drop, min, Option, None, Some, option_map, refl, ap, sym, ◌∙◌, subst, arith, length-append, length-take}
+use Rattle.std.proofs.Common.{◌≡◌, ◌≢◌, ℕ, suc, ◌+◌, ◌-◌, ◌<◌, ◌≤◌, List, [], ◌∷◌, ◌++◌, length, take, drop, None, Some, option_map, refl, ap, sym, ◌∙◌, subst, arith, length-append, length-take}
 use Rattle.std.proofs.lemmas.List.{take-append-drop, take_all, append_assoc, append-nil}
 use Rattle.rack_types.specs.declared.fault.Fault.{Fault}
 use Rattle.rack_types.specs.declared.fault.Fault.TheVariants.{F}
@@ -13,9 +13,9 @@ use Rattle.message_framing.specs.declared.intake.Standing.{Standing}
 use Rattle.message_framing.specs.declared.intake.Standing.TheVariants as at
 use Rattle.message_framing.specs.HeadText.{head_len, head_text}
 use Rattle.message_framing.specs.Scan.{behind, ends}
-use Rattle.message_framing.specs.Request.{head_limit, head_within, HeadRefusal, Refusal, IsGoodHead, IsRequest, Begins, Wanting}
-use Rattle.message_framing.specs.Intake.{IsOpen, FedAt, Fed, IsRight, taken, Judges}
-use Rattle.message_framing.proofs.ScanLemmas.{scan_head, ends_append, ends_stays, ends_within, behind_append}
+use Rattle.message_framing.specs.Request.{head_limit, head_within, TextRefusal, Refusal, IsGoodText, IsRequest, Begins, Wanting}
+use Rattle.message_framing.specs.Intake.{IsOpen, FedAt, IsRight, taken, Judges}
+use Rattle.message_framing.proofs.ScanLemmas.{scan_head, ends_append, ends_within, behind_append}
 use Rattle.message_framing.proofs.RequestLemmas.{ends_so, request_so, refused_at, wanting, too_long, refusal_stays, whole_end, take_append, within_append, ends_at, request_ends, begins_not_refused, begins_whole, begins_stays, begins_unique, refusal_unique}
 
 -- the bytes so far have no end, and the scan stands behind them
@@ -49,16 +49,16 @@ completes b piece line m n c room found =
     let short : length (take n piece) ≡ n = length-take n piece ∙ omega (arith, inside) in
     let unended : ends Skipping b ≡ None = scan_head b ∙ c.unended in
     let later : ends Skipping (b ++ take m piece) ≡ Some (length b + n) =
-      ends_append Skipping b (take m piece) unended
-      ∙ ap (λ l. option_map (λ k. length b + k) (ends l (take m piece))) (sym c.line_is)
-      ∙ ap (option_map (λ k. length b + k)) found in
+    ends_append Skipping b (take m piece) unended
+    ∙ ap (λ l. option_map (λ k. length b + k) (ends l (take m piece))) (sym c.line_is)
+    ∙ ap (option_map (λ k. length b + k)) found in
     let near : head_len (b ++ take m piece) ≡ Some (length b + n) = sym (scan_head (b ++ take m piece)) ∙ later in
     let limit : length b + n ≤ head_limit = omega (arith, c.within, room, part, length-take m piece) in
     let all : (b ++ take m piece) ++ drop m piece ≡ b ++ piece =
-      append_assoc b (take m piece) (drop m piece) ∙ ap (λ w. b ++ w) (take-append-drop m piece) in
+    append_assoc b (take m piece) (drop m piece) ∙ ap (λ w. b ++ w) (take-append-drop m piece) in
     let end : head_within (b ++ piece) ≡ Some (length b + n) =
-      subst (λ (w : List ℕ). head_within w ≡ Some (length b + n)) all
-      (within_append (b ++ take m piece) (drop m piece) (length b + n) (ends_so (b ++ take m piece) (length b + n) near limit)) in
+    subst (λ (w : List ℕ). head_within w ≡ Some (length b + n)) all
+    (within_append (b ++ take m piece) (drop m piece) (length b + n) (ends_so (b ++ take m piece) (length b + n) near limit)) in
     let front : take (length b + n) (b ++ piece) ≡ b ++ take n piece = front_of b piece n in
     let size : length (b ++ take n piece) ≡ length b + n = length-append b (take n piece) ∙ ap (λ k. length b + k) short in
     record {
@@ -74,14 +74,14 @@ pub judged : (answer : Feed) (s : Standing) (i : Intake) (b piece head : List �
     → Completes b piece n → head ≡ b ++ take n piece → Judges head n answer s → IsRight answer b piece × FedAt s i (taken answer b piece)
 judged (Whole m) (at.Whole r) i b piece head n c is h =
     let whole : head_within (b ++ take n piece) ≡ Some (length (b ++ take n piece)) = c.whole ∙ ap Some (sym c.size) in
-    let good : IsGoodHead (head_text (b ++ take n piece)) r = subst (λ (w : List ℕ). IsGoodHead (head_text w) r) is h.1 in
+    let good : IsGoodText (head_text (b ++ take n piece)) r = subst (λ (w : List ℕ). IsGoodText (head_text w) r) is h.1 in
     let request : IsRequest (b ++ take n piece) r = request_so (b ++ take n piece) r (record { end = whole; good = good }) in
     let fits : m ≤ length piece = omega (arith, h.0, c.inside) in
     let here : IsRequest (b ++ take m piece) r = subst (λ (k : ℕ). IsRequest (b ++ take k piece) r) (sym h.0) request in
     ((fits, (r, here)), here)
 judged (Refused f) (at.Refused g) i b piece head n c is h =
-    let refused : HeadRefusal (head_text (take (length b + n) (b ++ piece))) f =
-      subst (λ (w : List ℕ). HeadRefusal (head_text w) f) (is ∙ sym c.front) h.1 in
+    let refused : TextRefusal (head_text (take (length b + n) (b ++ piece))) f =
+    subst (λ (w : List ℕ). TextRefusal (head_text w) f) (is ∙ sym c.front) h.1 in
     let stands : Refusal (b ++ piece) f = refused_at (b ++ piece) (length b + n) f c.end refused in
     (stands, subst (λ (k : Fault). Refusal (b ++ piece) k) h.0 stands)
 judged More at.Open i b piece head n c is h = absurd h
@@ -98,15 +98,17 @@ pub goes_on : (b piece : List ℕ) (line : Line) → Coming b line → length b 
 goes_on b piece line c fits none =
     let unended : ends Skipping b ≡ None = scan_head b ∙ c.unended in
     let later : head_len (b ++ piece) ≡ None =
-      sym (scan_head (b ++ piece)) ∙ ends_append Skipping b piece unended
-      ∙ ap (λ l. option_map (λ k. length b + k) (ends l piece)) (sym c.line_is)
-      ∙ ap (option_map (λ k. length b + k)) none in
-    let size : length (b ++ piece) ≤ head_limit = omega (arith, fits, length-append b piece) in
-    (wanting (b ++ piece) later size, record {
-      within = size;
-      unended = later;
-      line_is = ap (λ l. behind l piece) c.line_is ∙ sym (behind_append Skipping b piece);
-    })
+    sym (scan_head (b ++ piece)) ∙ ends_append Skipping b piece unended
+    ∙ ap (λ l. option_map (λ k. length b + k) (ends l piece)) (sym c.line_is)
+    ∙ ap (option_map (λ k. length b + k)) none in
+    let size : length (b ++ piece) ≤ head_limit = omega (arith, fits, length-append b piece) in (
+      wanting (b ++ piece) later size,
+      record {
+        within = size;
+        unended = later;
+        line_is = ap (λ l. behind l piece) c.line_is ∙ sym (behind_append Skipping b piece);
+      },
+    )
 
 -- the limit is passed without an end
 pub passes : (b piece : List ℕ) (line : Line) (m : ℕ) → Coming b line → m ≡ head_limit - length b → m < length piece
@@ -117,12 +119,12 @@ passes b piece line m c room long none =
     let near = goes_on b (take m piece) line c sum none in
     let full : length (b ++ take m piece) ≡ head_limit = length-append b (take m piece) ∙ omega (arith, size, room, c.within) in
     let all : (b ++ take m piece) ++ drop m piece ≡ b ++ piece =
-      append_assoc b (take m piece) (drop m piece) ∙ ap (λ w. b ++ w) (take-append-drop m piece) in
+    append_assoc b (take m piece) (drop m piece) ∙ ap (λ w. b ++ w) (take-append-drop m piece) in
     let reach : head_limit ≤ length (b ++ take m piece) = omega (arith, full) in
     let shut : length (b ++ take m piece) ≤ head_limit = omega (arith, full) in
     let front : take head_limit (b ++ piece) ≡ b ++ take m piece =
-      ap (take head_limit) (sym all) ∙ take_append (b ++ take m piece) (drop m piece) head_limit reach
-      ∙ take_all head_limit (b ++ take m piece) shut in
+    ap (take head_limit) (sym all) ∙ take_append (b ++ take m piece) (drop m piece) head_limit reach
+    ∙ take_all head_limit (b ++ take m piece) shut in
     let over : head_limit < length (b ++ piece) = omega (arith, room, long, c.within, length-append b piece) in
     too_long (b ++ piece) (ap head_len front ∙ near.1.unended) over
 

@@ -1,5 +1,9 @@
+pub mod FieldLemmas
 pub mod HeadLemmas
 pub mod IntakeLemmas
+pub mod PartsLemmas
 pub mod RequestLemmas
 pub mod ScanLemmas
 pub mod SliceLemmas
+pub mod SoundLemmas
+pub mod TargetLemmas

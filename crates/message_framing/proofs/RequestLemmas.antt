@@ -1,7 +1,6 @@
 -- Requests and refusals over longer and shorter lists.
-use Rattle.std.proofs.Common.{◌≡◌, ◌≢◌, ℕ, ◌+◌, ◌-◌, ◌<◌, ◌≤◌, List, [], ◌∷◌, ◌++◌, length, take, drop, min, Option, None, Some, ◌⊎◌, inl, inr, refl, ap, sym, ◌∙◌, subst, arith, length-append, length-take}
-use Rattle.std.proofs.lemmas.List.{take-append-drop, take-append-le, take-take, take_all, append_assoc}
-use Rattle.std.proofs.lemmas.Bool.{cases_lt}
+use Rattle.std.proofs.Common.{◌≡◌, ℕ, ◌<◌, ◌≤◌, Bool, true, false, MatchBool, List, [], ◌∷◌, ◌++◌, length, take, drop, Option, None, Some, inl, inr, refl, ap, sym, ◌∙◌, subst, arith, length-append, length-take}
+use Rattle.std.proofs.lemmas.List.{take-append-drop, take-append-le, take_all}
 use Rattle.httparse.specs.Grammar.{RequestHead}
 use Rattle.httparse.proofs.GrammarLemmas.{request_unique}
 use Rattle.rack_types.specs.declared.fault.Fault.{Fault}
@@ -9,8 +8,9 @@ use Rattle.rack_types.specs.declared.fault.Fault.TheVariants.{F}
 use Rattle.rack_types.specs.Request.{Parts}
 use Rattle.message_framing.specs.declared.scan.Line.TheVariants.{Skipping}
 use Rattle.message_framing.specs.HeadText.{head_len, head_text}
-use Rattle.message_framing.specs.Head.{IsHead, IsNoHead, head_fault, request_of}
-use Rattle.message_framing.specs.Request.{head_limit, head_within, HeadRefusal, RefusalAt, Refusal, IsGoodHead, RequestAt, IsRequest, Begins, Wanting}
+use Rattle.message_framing.specs.Head.{IsHead, IsRequestOf, head_fault, request_with}
+use Rattle.message_framing.specs.Target.{target_of}
+use Rattle.message_framing.specs.Request.{head_limit, head_within, has_too_many_lines, HeadRefusal, TextRefusal, RefusalAt, Refusal, IsGoodHead, IsGoodText, RequestAt, IsRequest, Begins, Wanting}
 use Rattle.message_framing.proofs.ScanLemmas.{scan_head, ends_stays, ends_take, ends_within}
 
 -- a head text that has ended stays ended
@@ -72,12 +72,12 @@ refusal_stays b c f h = go (head_within b) refl h
     go (Some n) is h =
         let same : head_within (b ++ c) ≡ Some n = within_append b c n is in
         subst (λ (o : Option ℕ). RefusalAt o (b ++ c) f) (sym same)
-        (subst (λ (t : List ℕ). HeadRefusal (head_text t) f) (sym (take_append b c n (ends_at b n is).inside)) h)
+        (subst (λ (t : List ℕ). TextRefusal (head_text t) f) (sym (take_append b c n (ends_at b n is).inside)) h)
 
 -- a request ends with its head text
 pub record EndsWhole (t : List ℕ) (r : Parts) : Type 0 where
   pub end : head_within t ≡ Some (length t)
-  pub good : IsGoodHead (head_text t) r
+  pub good : IsGoodText (head_text t) r
 
 pub request_ends : (t : List ℕ) (r : Parts) → IsRequest t r → EndsWhole t r
 request_ends t r h = go (head_within t) refl h
@@ -87,26 +87,26 @@ request_ends t r h = go (head_within t) refl h
     go (Some n) is h =
         let whole : length t ≤ n = omega (arith, h.0) in record {
           end = is ∙ ap Some h.0;
-          good = subst (λ (w : List ℕ). IsGoodHead (head_text w) r) (take_all n t whole) h.1;
+          good = subst (λ (w : List ℕ). IsGoodText (head_text w) r) (take_all n t whole) h.1;
         }
 
 pub request_so : (t : List ℕ) (r : Parts) → EndsWhole t r → IsRequest t r
 request_so t r h =
     let whole : length t ≤ length t = omega arith in
     subst (λ (o : Option ℕ). RequestAt o t r) (sym h.end)
-    (refl, subst (λ (w : List ℕ). IsGoodHead (head_text w) r) (sym (take_all (length t) t whole)) h.good)
+    (refl, subst (λ (w : List ℕ). IsGoodText (head_text w) r) (sym (take_all (length t) t whole)) h.good)
 
 -- a list that begins with a request has its head text's end there
 pub record BeginsAt (b : List ℕ) (n : ℕ) (r : Parts) : Type 0 where
   pub end : head_within b ≡ Some n
-  pub good : IsGoodHead (head_text (take n b)) r
+  pub good : IsGoodText (head_text (take n b)) r
 
 pub begins_at : (b : List ℕ) (n : ℕ) (r : Parts) → Begins b n r → BeginsAt b n r
 begins_at b n r h =
     let whole = request_ends (take n b) r h.1 in
     let size : length (take n b) ≡ n = length-take n b ∙ omega (arith, h.0) in record {
       end = subst (λ (w : List ℕ). head_within w ≡ Some n) (take-append-drop n b)
-        (within_append (take n b) (drop n b) n (whole.end ∙ ap Some size));
+          (within_append (take n b) (drop n b) n (whole.end ∙ ap Some size));
       good = whole.good;
     }
 
@@ -114,23 +114,32 @@ pub begins_so : (b : List ℕ) (n : ℕ) (r : Parts) → BeginsAt b n r → Begi
 begins_so b n r h =
     let at = ends_at b n h.end in
     let size : length (take n b) ≡ n = length-take n b ∙ omega (arith, at.inside) in
-    let order : n ≤ n = omega arith in
-    (at.inside, request_so (take n b) r (record {
-      end = ends_so (take n b) n (head_take b n n at.len order) at.limit ∙ ap Some (sym size);
-      good = h.good;
-    }))
+    let order : n ≤ n = omega arith in (
+      at.inside,
+      request_so (take n b) r (record {
+        end = ends_so (take n b) n (head_take b n n at.len order) at.limit ∙ ap Some (sym size);
+        good = h.good;
+      }),
+    )
 
 -- a text is one head at most
-pub head_unique : (t : List ℕ) (h k : RequestHead) → IsHead t h → IsHead t k → h ≡ k
+head_unique : (t : List ℕ) (h k : RequestHead) → IsHead t h → IsHead t k → h ≡ k
 head_unique t h k x y = (request_unique t h k [] [] x.0 y.0).0
 
-pub good_unique : (t : List ℕ) (r q : Parts) → IsGoodHead t r → IsGoodHead t q → r ≡ q
-good_unique t r q x y = x.3 ∙ ap request_of (head_unique t x.0 y.0 x.1 y.1) ∙ sym y.3
+-- a head has one request at most
+request_of_unique : (h k : RequestHead) (r q : Parts) → h ≡ k → IsRequestOf h r → IsRequestOf k q → r ≡ q
+request_of_unique h k r q same x y =
+    let both : Some x.0 ≡ Some y.0 = sym x.1 ∙ ap (λ g. target_of g.method g.target) same ∙ y.1 in
+    let target : x.0 ≡ y.0 = cc in
+    x.2 ∙ ap (λ g. request_with g x.0) same ∙ ap (request_with k) target ∙ sym y.2
+
+head_good_unique : (t : List ℕ) (r q : Parts) → IsGoodHead t r → IsGoodHead t q → r ≡ q
+head_good_unique t r q x y = request_of_unique x.0 y.0 r q (head_unique t x.0 y.0 x.1 y.1) x.3 y.3
 
 -- a good head is not refused
-pub good_not_refused : (t : List ℕ) (r : Parts) (f : Fault) → IsGoodHead t r → HeadRefusal t f → ⊥
-good_not_refused t r f x (inl y) = y.0 x.0 x.1
-good_not_refused t r f x (inr y) =
+head_good_not_refused : (t : List ℕ) (r : Parts) (f : Fault) → IsGoodHead t r → HeadRefusal t f → ⊥
+head_good_not_refused t r f x (inl y) = y.0 x.0 x.1
+head_good_not_refused t r f x (inr y) =
     let same : x.0 ≡ y.0 = head_unique t x.0 y.0 x.1 y.1 in
     let clash : None ≡ Some f = sym x.2 ∙ ap head_fault same ∙ y.2 in
     cc
@@ -145,6 +154,28 @@ head_refusal_unique t f g (inr x) (inr y) =
     let both : Some f ≡ Some g = sym x.2 ∙ ap head_fault same ∙ y.2 in
     cc
 
+-- the same of a text, whose lines are counted first
+good_unique : (t : List ℕ) (r q : Parts) → IsGoodText t r → IsGoodText t q → r ≡ q
+good_unique t r q x y = go (has_too_many_lines t) x y
+  where
+    go : (b : Bool) → MatchBool b ⊥ (IsGoodHead t r) → MatchBool b ⊥ (IsGoodHead t q) → r ≡ q
+    go true x y = absurd x
+    go false x y = head_good_unique t r q x y
+
+good_not_refused : (t : List ℕ) (r : Parts) (f : Fault) → IsGoodText t r → TextRefusal t f → ⊥
+good_not_refused t r f x y = go (has_too_many_lines t) x y
+  where
+    go : (b : Bool) → MatchBool b ⊥ (IsGoodHead t r) → MatchBool b (f ≡ F 2) (HeadRefusal t f) → ⊥
+    go true x y = x
+    go false x y = head_good_not_refused t r f x y
+
+text_refusal_unique : (t : List ℕ) (f g : Fault) → TextRefusal t f → TextRefusal t g → f ≡ g
+text_refusal_unique t f g x y = go (has_too_many_lines t) x y
+  where
+    go : (b : Bool) → MatchBool b (f ≡ F 2) (HeadRefusal t f) → MatchBool b (g ≡ F 2) (HeadRefusal t g) → f ≡ g
+    go true x y = x ∙ sym y
+    go false x y = head_refusal_unique t f g x y
+
 -- the laws: the request that begins a list is one, with its length; a list that begins with a
 -- request is not refused; one refusal stands at most; a request stays, whatever follows
 pub begins_unique : (b : List ℕ) (n m : ℕ) (r q : Parts) → Begins b n r → Begins b m q → (n ≡ m) × (r ≡ q)
@@ -153,7 +184,7 @@ begins_unique b n m r q x y =
     let right = begins_at b m q y in
     let both : Some n ≡ Some m = sym left.end ∙ right.end in
     let same : n ≡ m = cc in
-    (same, good_unique _ r q left.good (subst (λ (k : ℕ). IsGoodHead (head_text (take k b)) q) (sym same) right.good))
+    (same, good_unique _ r q left.good (subst (λ (k : ℕ). IsGoodText (head_text (take k b)) q) (sym same) right.good))
 
 pub begins_not_refused : (b : List ℕ) (n : ℕ) (r : Parts) (f : Fault) → Begins b n r → Refusal b f → ⊥
 begins_not_refused b n r f x y =
@@ -165,14 +196,14 @@ refusal_unique b f g x y = go (head_within b) x y
   where
     go : (o : Option ℕ) → RefusalAt o b f → RefusalAt o b g → f ≡ g
     go None x y = x.1 ∙ sym y.1
-    go (Some n) x y = head_refusal_unique _ f g x y
+    go (Some n) x y = text_refusal_unique _ f g x y
 
 pub begins_stays : (b c : List ℕ) (n : ℕ) (r : Parts) → Begins b n r → Begins (b ++ c) n r
 begins_stays b c n r x =
     let at = begins_at b n r x in
     begins_so (b ++ c) n r (record {
       end = within_append b c n at.end;
-      good = subst (λ (w : List ℕ). IsGoodHead (head_text w) r) (sym (take_append b c n x.0)) at.good;
+      good = subst (λ (w : List ℕ). IsGoodText (head_text w) r) (sym (take_append b c n x.0)) at.good;
     })
 
 -- where the head text has not ended and the limit is kept, neither stands
@@ -189,7 +220,7 @@ pub too_long : (b : List ℕ) → head_within b ≡ None → head_limit < length
 too_long b none long = subst (λ (o : Option ℕ). RefusalAt o b (F 1)) (sym none) (long, refl)
 
 -- a whole head that is refused
-pub refused_at : (b : List ℕ) (n : ℕ) (f : Fault) → head_within b ≡ Some n → HeadRefusal (head_text (take n b)) f → Refusal b f
+pub refused_at : (b : List ℕ) (n : ℕ) (f : Fault) → head_within b ≡ Some n → TextRefusal (head_text (take n b)) f → Refusal b f
 refused_at b n f is h = subst (λ (o : Option ℕ). RefusalAt o b f) (sym is) h
 
 -- a request begins itself
@@ -197,3 +228,15 @@ pub begins_whole : (b : List ℕ) (r : Parts) → IsRequest b r → Begins b (le
 begins_whole b r is =
     let all : length b ≤ length b = omega arith in
     (all, subst (λ (w : List ℕ). IsRequest w r) (sym (take_all (length b) b all)) is)
+
+-- no request is a proper prefix of another
+pub no_longer_request : (b more : List ℕ) (r q : Parts) → IsRequest b r → IsRequest (b ++ more) q → more ≡ []
+no_longer_request b more r q x y =
+    let short = begins_stays b more (length b) r (begins_whole b r x) in
+    let long = begins_whole (b ++ more) q y in
+    let same : length b ≡ length (b ++ more) = (begins_unique (b ++ more) (length b) (length (b ++ more)) r q short long).0 in
+    nothing_left more (omega (arith, same, length-append b more))
+  where
+    nothing_left : (xs : List ℕ) → length xs ≡ 0 → xs ≡ []
+    nothing_left [] is = refl
+    nothing_left (x ∷ xs) is = absurd (omega arith)

@@ -1,10 +1,10 @@
 -- The scan finds the end of the head text as it is defined over whole lists.
-use Rattle.std.proofs.Common.{◌≡◌, ◌≢◌, ℕ, zero, suc, ◌+◌, ◌-◌, ◌<◌, ◌≤◌, Bool, true, false, ◌&&◌, ◌==◌, nat_lt, List, [], ◌∷◌, ◌++◌, length, drop, take, get_or, Option, None, Some, option_map, if◌then◌else◌, refl, ap, sym, ◌∙◌, arith, ◌⊎◌, inl, inr, cond, drop-cons, add-one, subst}
+use Rattle.std.proofs.Common.{◌≡◌, ◌≢◌, ℕ, zero, suc, ◌+◌, ◌-◌, ◌<◌, ◌≤◌, Bool, true, false, ◌==◌, nat_lt, List, [], ◌∷◌, ◌++◌, length, drop, take, get_or, Option, None, Some, option_map, if◌then◌else◌, refl, ap, sym, ◌∙◌, arith, ◌⊎◌, inl, inr, drop-cons, add-one, subst}
 use Rattle.std.proofs.lemmas.List.{drop_all, drop-drop, length-drop}
 use Rattle.std.proofs.lemmas.Bool.Decides.{eqb_tells}
 use Rattle.memchr.specs.Find.{Nowhere, Passes, is_byte}
-use Rattle.message_framing.specs.HeadText.{lf, cr, empty_line, skip, lines_end, head_len}
-use Rattle.message_framing.specs.Scan.{fed, returned, lettered, next, behind, one_more, ends}
+use Rattle.message_framing.specs.HeadText.{empty_line, skip, lines_end, head_len}
+use Rattle.message_framing.specs.Scan.{next, behind, one_more, ends}
 use Rattle.message_framing.specs.declared.scan.Line.{Line}
 use Rattle.message_framing.specs.declared.scan.Line.TheVariants.{Skipping, SkippingReturn, Text, Start, Return, Ended}
 
@@ -38,9 +38,9 @@ bool_cases false = inr refl
 
 pub kind_of : (b : ℕ) → Kind b
 kind_of b = elim (bool_cases (b == 10)) [
-    inl here ↦ feed here
+  | inl here ↦ feed here
   | inr not_feed ↦ elim (bool_cases (b == 13)) [ inl here ↦ return not_feed here | inr never ↦ letter not_feed never ]
-  ]
+]
 
 -- the first byte is a line feed
 abbrev pub begins_line_feed : List ℕ → Bool
@@ -97,10 +97,10 @@ pub in_head : (b : List ℕ) → InHead b
 unfolding ends lines_end empty_line
 in_head [] = record { text = refl; start = refl; return = refl }
 in_head (x ∷ r) = elim (kind_of x) [
-    feed is ↦ in_head_feed x r is (in_head r)
+  | feed is ↦ in_head_feed x r is (in_head r)
   | return nofeed is ↦ in_head_return x r nofeed is (in_head r)
   | letter nofeed noreturn ↦ in_head_letter x r nofeed noreturn (in_head r)
-  ]
+]
 
 -- adding to a number that may not be there
 add_zero : (o : Option ℕ) → o ≡ option_map (λ n. 0 + n) o
@@ -135,27 +135,27 @@ same_return : (x c : ℕ) (r : List ℕ) → (x == 10) ≡ false → (x == 13) �
     → ends Skipping (x ∷ c ∷ r) ≡ ends Text (x ∷ c ∷ r)
 unfolding ends
 same_return x c r nofeed is after = elim (bool_cases (c == 13)) [
-    inl again ↦ rw (nofeed, is, after, again) refl
+  | inl again ↦ rw (nofeed, is, after, again) refl
   | inr other ↦ rw (nofeed, is, after, other) refl
-  ]
+]
 
 -- the scan from the front finds the end of the head text
 pub scan_head : (b : List ℕ) → ends Skipping b ≡ head_len b
 unfolding ends head_len skip lines_end empty_line
 scan_head [] = refl
 scan_head (x ∷ []) = elim (kind_of x) [
-    feed is ↦ simp is refl
+  | feed is ↦ simp is refl
   | return nofeed is ↦ simp (nofeed, is) refl
   | letter nofeed noreturn ↦ simp (nofeed, noreturn) refl
-  ]
+]
 scan_head (x ∷ c ∷ r) = elim (kind_of x) [
-    feed is ↦ rw is (ap (option_map suc) (scan_head (c ∷ r)) ∙ add_suc _ _)
+  | feed is ↦ rw is (ap (option_map suc) (scan_head (c ∷ r)) ∙ add_suc _ _)
   | return nofeed is ↦ elim (bool_cases (c == 10)) [
-      inl empty ↦ simp (nofeed, is, empty) (ap (λ o. option_map suc (option_map suc o)) (scan_head r) ∙ ap (option_map suc) (add_suc _ _) ∙ add_suc _ _)
+    | inl empty ↦ simp (nofeed, is, empty) (ap (λ o. option_map suc (option_map suc o)) (scan_head r) ∙ ap (option_map suc) (add_suc _ _) ∙ add_suc _ _)
     | inr after ↦ same_return x c r nofeed is after ∙ (in_head (x ∷ c ∷ r)).text ∙ sym (from_text (x ∷ c ∷ r) (no_skip_return x c r nofeed is after))
-    ]
-  | letter nofeed noreturn ↦ same_letter x (c ∷ r) nofeed noreturn ∙ (in_head (x ∷ c ∷ r)).text ∙ sym (from_text (x ∷ c ∷ r) (no_skip_letter x (c ∷ r) nofeed noreturn))
   ]
+  | letter nofeed noreturn ↦ same_letter x (c ∷ r) nofeed noreturn ∙ (in_head (x ∷ c ∷ r)).text ∙ sym (from_text (x ∷ c ∷ r) (no_skip_letter x (c ∷ r) nofeed noreturn))
+]
 
 -- a byte ends the head text, or the rest decides
 one_more_cases : (l : Line) → ((o : Option ℕ) → one_more l o ≡ Some 1) ⊎ ((o : Option ℕ) → one_more l o ≡ option_map suc o)
@@ -179,34 +179,34 @@ pub ends_append : (line : Line) (a b : List ℕ) → ends line a ≡ None → en
 unfolding ends behind
 ends_append line [] b none = add_zero (ends line b)
 ends_append line (x ∷ a) b none = elim (one_more_cases (next line x)) [
-    inl ended ↦ absurd (let h : Some 1 ≡ None = sym (ended (ends (next line x) a)) ∙ none in cc)
+  | inl ended ↦ absurd (let h : Some 1 ≡ None = sym (ended (ends (next line x) a)) ∙ none in cc)
   | inr later ↦
-    let before : ends (next line x) a ≡ None = none_before _ (sym (later _) ∙ none) in
-    later _ ∙ ap (option_map suc) (ends_append (next line x) a b before) ∙ add_suc _ _
-  ]
+      let before : ends (next line x) a ≡ None = none_before _ (sym (later _) ∙ none) in
+      later _ ∙ ap (option_map suc) (ends_append (next line x) a b before) ∙ add_suc _ _
+]
 
 -- an end that was found stays
 pub ends_stays : (line : Line) (a b : List ℕ) (n : ℕ) → ends line a ≡ Some n → ends line (a ++ b) ≡ Some n
 unfolding ends
 ends_stays line [] b n is = cc
 ends_stays line (x ∷ a) b n is = elim (one_more_cases (next line x)) [
-    inl ended ↦ ended _ ∙ sym (ended _) ∙ is
+  | inl ended ↦ ended _ ∙ sym (ended _) ∙ is
   | inr later ↦
-    let before = some_before _ n (sym (later (ends (next line x) a)) ∙ is) in
-    later _ ∙ ap (option_map suc) (ends_stays (next line x) a b before.0 before.1) ∙ ap Some (sym before.2)
-  ]
+      let before = some_before _ n (sym (later (ends (next line x) a)) ∙ is) in
+      later _ ∙ ap (option_map suc) (ends_stays (next line x) a b before.0 before.1) ∙ ap Some (sym before.2)
+]
 
 -- an end lies within the bytes
 pub ends_within : (line : Line) (a : List ℕ) (n : ℕ) → ends line a ≡ Some n → (0 < n) × (n ≤ length a)
 unfolding ends
 ends_within line [] n is = cc
 ends_within line (x ∷ a) n is = elim (one_more_cases (next line x)) [
-    inl ended ↦ (let one : Some 1 ≡ Some n = sym (ended (ends (next line x) a)) ∙ is in let same : 1 ≡ n = cc in (omega arith, omega arith))
+  | inl ended ↦ (let one : Some 1 ≡ Some n = sym (ended (ends (next line x) a)) ∙ is in let same : 1 ≡ n = cc in (omega arith, omega arith))
   | inr later ↦
-    let before = some_before _ n (sym (later (ends (next line x) a)) ∙ is) in
-    let within : (0 < before.0) × (before.0 ≤ length a) = ends_within (next line x) a before.0 before.1 in
-    (omega (arith, before.2), omega (arith, before.2, within.1))
-  ]
+      let before = some_before _ n (sym (later (ends (next line x) a)) ∙ is) in
+      let within : (0 < before.0) × (before.0 ≤ length a) = ends_within (next line x) a before.0 before.1 in
+      (omega (arith, before.2), omega (arith, before.2, within.1))
+]
 
 -- a prefix that holds the end shows it
 pub ends_take : (line : Line) (a : List ℕ) (n m : ℕ) → ends line a ≡ Some n → n ≤ m → ends line (take m a) ≡ Some n
@@ -214,12 +214,12 @@ unfolding ends
 ends_take line [] n m is fits = cc
 ends_take line (x ∷ a) n zero is fits = absurd (omega (arith, (ends_within line (x ∷ a) n is).0))
 ends_take line (x ∷ a) n (suc m) is fits = elim (one_more_cases (next line x)) [
-    inl ended ↦ ended _ ∙ sym (ended _) ∙ is
+  | inl ended ↦ ended _ ∙ sym (ended _) ∙ is
   | inr later ↦
-    let before = some_before _ n (sym (later (ends (next line x) a)) ∙ is) in
-    let below : before.0 ≤ m = omega (arith, before.2) in
-    later _ ∙ ap (option_map suc) (ends_take (next line x) a before.0 m before.1 below) ∙ ap Some (sym before.2)
-  ]
+      let before = some_before _ n (sym (later (ends (next line x) a)) ∙ is) in
+      let below : before.0 ≤ m = omega (arith, before.2) in
+      later _ ∙ ap (option_map suc) (ends_take (next line x) a before.0 m before.1 below) ∙ ap Some (sym before.2)
+]
 
 -- the line behind two pieces
 pub behind_append : (line : Line) (a b : List ℕ) → behind line (a ++ b) ≡ behind (behind line a) b
@@ -233,9 +233,9 @@ NoFeedBelow k w = (j : ℕ) → j < k → (get_or w j 0 == 10) ≡ false
 
 no_feed_next : (x : ℕ) → (x == 10) ≡ false → next Text x ≡ Text
 no_feed_next x no_feed = elim (bool_cases (x == 13)) [
-    inl here ↦ rw (no_feed, here) refl
+  | inl here ↦ rw (no_feed, here) refl
   | inr other ↦ rw (no_feed, other) refl
-  ]
+]
 
 -- inside a line the scan may go on to the next line feed
 pub over_text : (k : ℕ) (w : List ℕ) → k ≤ length w → NoFeedBelow k w
@@ -400,7 +400,7 @@ pub ready_at_feed : (first line : Line) (piece w : List ℕ) (i k at : ℕ) → 
     → k < length w → Nowhere (Passes (is_byte 10) w) 0 k → at ≡ i + k → IsReady first line piece at
 ready_at_feed first line piece w i k at h text is below none here =
     let there : IsScanned first Text piece (i + k) =
-      scan_to_feed first piece w i k (subst (λ (l : Line). IsScanned first l piece i) text h) is below none in
+    scan_to_feed first piece w i k (subst (λ (l : Line). IsScanned first l piece i) text h) is below none in
     let size : length w ≡ length piece - i = ap length is ∙ length-drop i piece in
     record {
       scanned = rw here (subst (λ (l : Line). IsScanned first l piece (i + k)) (sym text) there);

@@ -1,5 +1,5 @@
 -- Parts of a slice.
-use Rattle.std.proofs.Common.{◌≡◌, ℕ, ◌+◌, ◌-◌, ◌<◌, ◌≤◌, Bool, List, [], ◌∷◌, length, take, drop, min, refl, ap, sym, ◌∙◌, arith, length-drop, length-take}
+use Rattle.std.proofs.Common.{◌≡◌, ℕ, ◌+◌, ◌-◌, ◌≤◌, List, length, take, drop, ap, sym, ◌∙◌, arith, length-drop, length-take}
 use Rattle.std.proofs.lemmas.List.{drop-take, drop-drop, take-take}
 use Rattle.std.specs.List.{slice_range}
 
@@ -19,3 +19,11 @@ slice_rest w s e n fits =
 -- the length of a slice
 pub length-slice : (w : List ℕ) (s e : ℕ) → s ≤ e → e ≤ length w → length (slice_range w s e) ≡ e - s
 length-slice w s e order fits = length-take (e - s) (drop s w) ∙ omega (arith, length-drop s w)
+
+-- a slice of a slice
+pub slice_slice : (w : List ℕ) (s e a b : ℕ) → a ≤ b → s + b ≤ e → slice_range w (s + a) (s + b) ≡ slice_range (slice_range w s e) a b
+slice_slice w s e a b order fits =
+    let start : s + a ≤ e = omega (arith, order, fits) in
+    let sum : s + b ≡ s + a + (b - a) = omega (arith, order) in
+    let room : s + a + (b - a) ≤ e = omega (arith, order, fits) in
+    ap (slice_range w (s + a)) sum ∙ slice_front w (s + a) e (b - a) room ∙ ap (take (b - a)) (slice_rest w s e a start)

@@ -1,19 +1,28 @@
--- A head, and what it says (RFC 9112, sections 2 to 5).
-use Rattle.std.specs.Prelude.{◌≡◌, ℕ, ◌≤◌, Bool, true, false, ◌&&◌, not, ◌==◌, nat_le, nat_lt, if◌then◌else◌, List, [], ◌∷◌, length, map, Option, None, Some, codes}
-use Rattle.std.specs.List.{before_first, after_first, list_all}
-use Rattle.std.specs.Char.{is_ascii_lowercase}
-use Rattle.std.specs.Str.{bytes_eq, str_eq_ignore_ascii_case}
+-- A head, and what it says (RFC 9112, sections 2 to 6).
+use Rattle.std.specs.Prelude.{◌≡◌, ℕ, ◌≤◌, ◌-◌, Bool, false, ◌==◌, if◌then◌else◌, List, [], length, map, count_by, Option, None, Some, codes, bytes_eq}
 use Rattle.httparse.specs.Grammar.{RequestHead, ReadsRequest}
 use Rattle.httparse.specs.Spans.{name_and_value}
 use Rattle.rack_types.specs.declared.fault.Fault.{Fault}
 use Rattle.rack_types.specs.declared.fault.Fault.TheVariants.{F}
 use Rattle.rack_types.specs.declared.limits.Version.{Version}
 use Rattle.rack_types.specs.declared.limits.Version.TheVariants.{Http10, Http11}
-use Rattle.rack_types.specs.Request.{Parts, path_or_root}
+use Rattle.rack_types.specs.Limits.{stock_limits}
+use Rattle.rack_types.specs.Request.{Parts}
+use Rattle.message_framing.specs.HeadText.{lf}
+use Rattle.message_framing.specs.Target.{Target, target_of}
+use Rattle.message_framing.specs.Framing.{fields_fault}
 
--- the text is this head and nothing else, with at most 64 fields
+-- the byte is a line feed
+abbrev pub is_line_feed : ℕ → Bool
+is_line_feed b = b == lf
+
+-- the lines between the request line and the blank line, of a head text
+abbrev pub lines_between : List ℕ → ℕ
+lines_between text = count_by is_line_feed text - 2
+
+-- the text is this head and nothing else, with as many fields at most as lines are taken
 abbrev pub IsHead : List ℕ → RequestHead → Type 0
-IsHead text h = ReadsRequest text h [] × (length h.fields ≤ 64)
+IsHead text h = ReadsRequest text h [] × (length h.fields ≤ stock_limits.lines)
 
 -- the text is no head
 abbrev pub IsNoHead : List ℕ → Type 0
@@ -23,54 +32,32 @@ IsNoHead text = (h : RequestHead) → ¬ (IsHead text h)
 abbrev pub version_of : ℕ → Version
 version_of minor = if minor == 0 then Http10 else Http11
 
--- the byte is a question mark, which parts the path from the query
-abbrev pub is_question : ℕ → Bool
-is_question b = b == 63
-
--- a byte of a target: visible ASCII, and no `#`
-abbrev pub is_target_byte : ℕ → Bool
-is_target_byte b = nat_le 33 b && nat_le b 126 && not (b == 35)
-
--- the target begins with `/` (origin form, RFC 9112 3.2.1)
-abbrev pub begins_with_slash : List ℕ → Bool
-begins_with_slash [] = false
-begins_with_slash (b ∷ rest) = b == 47
-
 -- the fields in order, each as its name and its value
 abbrev pub fields_of : RequestHead → List (List ℕ × List ℕ)
 fields_of h = map name_and_value h.fields
 
--- a value that is one or more letters a to z
-abbrev pub is_letters : List ℕ → Bool
-is_letters value = nat_lt 0 (length value) && list_all is_ascii_lowercase value
-
--- the one field is Host, in any case of letters, and its value is one or more letters a to z
-abbrev pub is_host_alone : List (List ℕ × List ℕ) → Bool
-is_host_alone [] = false
-is_host_alone (f ∷ []) = str_eq_ignore_ascii_case f.0 (codes "host") && is_letters f.1
-is_host_alone (f ∷ g ∷ more) = false
-
--- the target is of origin form, and each of its bytes may stand in a target
-abbrev pub is_origin_form : List ℕ → Bool
-is_origin_form target = begins_with_slash target && list_all is_target_byte target
-
--- the form that is built so far: GET, HTTP/1.1, a target of origin form, and Host alone
-unfoldable pub is_built : RequestHead → Bool
-is_built h = bytes_eq h.method (codes "GET") && (h.minor == 1) && is_origin_form h.target && is_host_alone (fields_of h)
+-- the refusal of a head whose target is this: F5 where it has no form, else what the fields earn
+abbrev pub fault_with : Option Target → RequestHead → Option Fault
+fault_with None h = Some (F 5)
+fault_with (Some target) h = fields_fault (version_of h.minor) (fields_of h)
 
 -- the refusal that a head earns by what it says, none where it earns none
 unfoldable pub head_fault : RequestHead → Option Fault
-head_fault h = if is_built h then None else Some (F 0)
+head_fault h = if bytes_eq h.method (codes "CONNECT") then Some (F 4) else fault_with (target_of h.method h.target) h
 
--- the request with this head and no body
-unfoldable pub request_of : RequestHead → Parts
-request_of h = record {
+-- the request with this head and this target, and no body
+unfoldable pub request_with : RequestHead → Target → Parts
+request_with h target = record {
   method = h.method;
-  path = path_or_root (before_first is_question h.target);
-  query = after_first is_question h.target;
-  authority = None;
+  path = target.path;
+  query = target.query;
+  authority = target.authority;
   version = version_of h.minor;
   fields = fields_of h;
   body = [];
   chunked = false;
 }
+
+-- r is the request of this head
+abbrev pub IsRequestOf : RequestHead → Parts → Type 0
+IsRequestOf h r = (target : Target) × (target_of h.method h.target ≡ Some target) × (r ≡ request_with h target)

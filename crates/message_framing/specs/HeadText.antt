@@ -1,6 +1,7 @@
 -- The head text: from the first line that is not empty through the empty line that ends the head
--- (RFC 9112, sections 2.1 and 2.2). A line ends in LF or in CR LF.
-use Rattle.std.specs.Prelude.{ℕ, suc, ◌+◌, Bool, ◌&&◌, ◌==◌, nat_lt, if◌then◌else◌, List, [], ◌∷◌, drop, take, Option, None, Some, option_map}
+-- (RFC 9112, sections 2.1 and 2.2). A line ends in LF or in CR LF. The RFC asks that at least one empty
+-- line in front is skipped; that any number is, is this project's own.
+use Rattle.std.specs.Prelude.{ℕ, suc, ◌+◌, ◌&&◌, ◌==◌, nat_lt, if◌then◌else◌, List, [], ◌∷◌, drop, Option, None, Some, option_map}
 
 -- line feed
 abbrev pub lf : ℕ

@@ -1,9 +1,11 @@
--- What an intake holds, and what `feed` answers.
-use Rattle.std.specs.Prelude.{◌≡◌, ℕ, ◌≤◌, List, ◌++◌, length, take, None, Some, Result, Ok, Err, ⊤, vec_len, vec_capacity}
+-- What an intake holds, and what `feed` answers. `IsRight` is what a reader must believe; `Fed` is what
+-- an intake keeps, and is told by `new` and carried by `feed`: whoever holds an intake carries the
+-- bytes that it was fed.
+use Rattle.std.specs.Prelude.{◌≡◌, ℕ, ◌≤◌, List, ◌++◌, length, take, None, Result, Ok, Err, vec_capacity}
 use Rattle.std.specs.declared.alloc.AllocError.{AllocError}
 use Rattle.rack_types.specs.Request.{Parts}
 use Rattle.message_framing.specs.HeadText.{head_len, head_text}
-use Rattle.message_framing.specs.Request.{head_limit, Refusal, IsRequest, Wanting, IsGoodHead, HeadRefusal}
+use Rattle.message_framing.specs.Request.{head_limit, Refusal, IsRequest, Wanting, IsGoodText, TextRefusal}
 use Rattle.message_framing.specs.Scan.{behind}
 use Rattle.message_framing.specs.declared.scan.Line.TheVariants.{Skipping}
 use Rattle.message_framing.specs.declared.intake.Feed.{Feed}
@@ -48,8 +50,8 @@ abbrev pub FeedsTo : Intake → List ℕ → Result Feed AllocError → Intake �
 FeedsTo old piece (Ok answer) new = (b : List ℕ) → Fed old b → IsRight answer b piece × Fed new (taken answer b piece)
 FeedsTo old piece (Err e) new = (b : List ℕ) → ¬ (Fed old b)
 
--- what stands behind a whole head, whose bytes with the empty lines before it are these
+-- of a private function alone: what stands behind a whole head, whose bytes with the empty lines before it are these
 abbrev pub Judges : List ℕ → ℕ → Feed → Standing → Type 0
-Judges head n (Whole m) (at.Whole r) = (m ≡ n) × IsGoodHead (head_text head) r
-Judges head n (Refused f) (at.Refused g) = (f ≡ g) × HeadRefusal (head_text head) f
+Judges head n (Whole m) (at.Whole r) = (m ≡ n) × IsGoodText (head_text head) r
+Judges head n (Refused f) (at.Refused g) = (f ≡ g) × TextRefusal (head_text head) f
 Judges head n answer standing = ⊥

@@ -1,6 +1,9 @@
+pub mod Found
+pub mod Framing
 pub mod Head
 pub mod HeadText
 pub mod Intake
 pub mod Reads
 pub mod Request
 pub mod Scan
+pub mod Target

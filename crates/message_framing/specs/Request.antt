@@ -1,33 +1,52 @@
 -- Where a request begins and ends, and what is refused: relations on whole byte lists.
-use Rattle.std.specs.Prelude.{◌≡◌, ℕ, ◌<◌, ◌≤◌, ◌⊎◌, List, length, take, Option, None, Some}
+use Rattle.std.specs.Prelude.{◌≡◌, ℕ, ◌<◌, ◌≤◌, ◌⊎◌, Bool, nat_lt, MatchBool, List, length, take, Option, None, Some}
 use Rattle.httparse.specs.Grammar.{RequestHead}
 use Rattle.rack_types.specs.declared.fault.Fault.{Fault}
 use Rattle.rack_types.specs.declared.fault.Fault.TheVariants.{F}
+use Rattle.rack_types.specs.Limits.{stock_limits}
 use Rattle.rack_types.specs.Request.{Parts}
 use Rattle.message_framing.specs.HeadText.{head_len, head_text}
-use Rattle.message_framing.specs.Head.{IsHead, IsNoHead, head_fault, request_of}
+use Rattle.message_framing.specs.Head.{IsHead, IsNoHead, IsRequestOf, lines_between, head_fault}
 
--- the bytes that a head may have, with the empty lines before it
+-- the bytes that a head may have, with the empty lines before it. The limits and the numbers of the
+-- refusals are this project's own.
 abbrev pub head_limit : ℕ
-head_limit = 32768
+head_limit = stock_limits.head
 
 -- where the head text ends, if it does within the limit
 abbrev pub head_within : List ℕ → Option ℕ
 head_within b = head_len (take head_limit b)
 
--- the refusal of a whole head text: F3 where it is no head, else what the head earns
+-- the lines that a head may have between its request line and its blank line
+abbrev pub lines_limit : ℕ
+lines_limit = stock_limits.lines
+
+-- the text has more lines than that
+unfoldable pub has_too_many_lines : List ℕ → Bool
+has_too_many_lines text = nat_lt lines_limit (lines_between text)
+
+-- the refusal of a whole head text whose lines are few enough: F3 where it is no head, else what the
+-- head earns
 abbrev pub HeadRefusal : List ℕ → Fault → Type 0
 HeadRefusal text f =
     (IsNoHead text × (f ≡ F 3)) ⊎ ((h : RequestHead) × IsHead text h × (head_fault h ≡ Some f))
 
+-- the refusal of a whole head text: F2 where its lines are too many
+abbrev pub TextRefusal : List ℕ → Fault → Type 0
+TextRefusal text f = MatchBool (has_too_many_lines text) (f ≡ F 2) (HeadRefusal text f)
+
 -- the text is a head that earns no refusal, and r is its request
 abbrev pub IsGoodHead : List ℕ → Parts → Type 0
-IsGoodHead text r = (h : RequestHead) × IsHead text h × (head_fault h ≡ None) × (r ≡ request_of h)
+IsGoodHead text r = (h : RequestHead) × IsHead text h × (head_fault h ≡ None) × IsRequestOf h r
+
+-- the text is such a head, with few enough lines
+abbrev pub IsGoodText : List ℕ → Parts → Type 0
+IsGoodText text r = MatchBool (has_too_many_lines text) ⊥ (IsGoodHead text r)
 
 -- the refusal, by where the head text ends: F1 where it does not and the limit is passed
 abbrev pub RefusalAt : Option ℕ → List ℕ → Fault → Type 0
 RefusalAt None b f = (head_limit < length b) × (f ≡ F 1)
-RefusalAt (Some n) b f = HeadRefusal (head_text (take n b)) f
+RefusalAt (Some n) b f = TextRefusal (head_text (take n b)) f
 
 -- f is the first refusal that stands for b
 abbrev pub Refusal : List ℕ → Fault → Type 0
@@ -36,7 +55,7 @@ Refusal b f = RefusalAt (head_within b) b f
 -- b is a whole request, by where its head text ends
 abbrev pub RequestAt : Option ℕ → List ℕ → Parts → Type 0
 RequestAt None b r = ⊥
-RequestAt (Some n) b r = (n ≡ length b) × IsGoodHead (head_text (take n b)) r
+RequestAt (Some n) b r = (n ≡ length b) × IsGoodText (head_text (take n b)) r
 
 -- b is the request r: empty lines, a head that earns no refusal, and nothing behind it
 abbrev pub IsRequest : List ℕ → Parts → Type 0

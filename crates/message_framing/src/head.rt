@@ -1,20 +1,24 @@
 // A whole head text, read and judged.
-ghost use Rattle.std.specs.Prelude.{◌≡◌, ◌≤◌, ◌<◌, [], false, length, drop, take, map, vec_len, All, IfSome, IfNone, MatchResult, IsSome};
+ghost use Rattle.std.specs.Prelude.{◌≡◌, ◌≤◌, ◌<◌, ◌+◌, ◌^◌, [], Some, length, drop, vec_len, IfOk, IfSome, IfNone, MatchResult};
+ghost use Rattle.std.specs.Option.{ForSome, option_map};
 ghost use Rattle.httparse.specs.Grammar.{RequestHead};
-ghost use Rattle.httparse.specs.Spans.{IsRequestAt, IsRequestWithin, IsHeaderWithin, header_bytes};
-ghost use Rattle.rack_types.specs.Request.{Parts, SpansFit, parts_at};
+ghost use Rattle.httparse.specs.Spans.{IsRequestAt};
+ghost use Rattle.rack_types.specs.Request.{SpansFit};
 ghost use Rattle.message_framing.specs.HeadText.{head_text};
-ghost use Rattle.message_framing.specs.Head.{IsHead, IsNoHead, request_of, is_built, is_origin_form, is_letters, is_host_alone, is_target_byte, is_question, version_of};
-ghost use Rattle.std.specs.List.{list_all, position_or_len};
-ghost use Rattle.std.specs.Char.{is_ascii_lowercase};
-ghost use Rattle.message_framing.specs.Request.{HeadRefusal, IsGoodHead};
-ghost use Rattle.message_framing.specs.Reads.{ReadsHead};
+ghost use Rattle.message_framing.specs.Head.{IsNoHead, head_fault, version_of};
+ghost use Rattle.message_framing.specs.Request.{IsGoodText, TextRefusal, has_too_many_lines};
+ghost use Rattle.message_framing.specs.Reads.{PartsAs, ReadsHead, shifted_by};
 
+use crate::fields::fields_fault;
 use crate::scan::{skip, suffix};
+use crate::target::read_target;
 use httparse::Status;
 use httparse::spans::{HeaderSpan, RequestSpans, Span, parse_request};
-use memchr::memchr;
+use memchr::memchr_iter;
 use rack_types::{Fault, Request, Spans, Version};
+
+// The lines that a head may have between its request line and its blank line.
+const LINES_LIMIT: usize = 64;
 
 // The places of the head's parts, where the text is a head and nothing else.
 fn parse_head(text: &[u8], places: &mut Vec<HeaderSpan>) -> Option<RequestSpans>
@@ -34,88 +38,88 @@ fn parse_head(text: &[u8], places: &mut Vec<HeaderSpan>) -> Option<RequestSpans>
     }
 }
 
-// Each byte may stand in a target: visible ASCII, and no `#`.
-fn are_target_bytes(target: &[u8]) -> bool
-    ensures { result ≡ list_all is_target_byte target.now }
+// The lines of a head text between its request line and its blank line are more than 64.
+fn has_too_many_lines(text: &[u8]) -> bool
+    ensures { result ≡ has_too_many_lines text.now }
 {
-    target
-        .iter()
-        .all(|b| 33 <= *b && *b <= 126 && *b != b'#')
+    memchr_iter(b'\n', text).count().saturating_sub(2) > LINES_LIMIT
 }
 
-// A target of origin form, whose bytes may all stand in one.
-fn is_origin_form(target: &[u8]) -> bool
-    ensures { result ≡ is_origin_form target.now }
+/// Reads a whole head, with the empty lines before it: its request, which has no body, or the first
+/// refusal that it earns. It takes no memory.
+pub(crate) fn read_head(bytes: Vec<u8>, mut places: Vec<HeaderSpan>) -> Result<Request, Fault>
+    requires { vec_len places ≡ 64 }
+    ensures { MatchResult result (IsGoodText (head_text bytes.items)) (TextRefusal (head_text bytes.items)) }
 {
-    match target {
-        [b'/', ..] => are_target_bytes(target),
-        _ => false,
+    let start = skip(&bytes);
+    let text = suffix(&bytes, start);
+    if has_too_many_lines(text) {
+        return Err(Fault::F(2));
+    }
+    let Some(head) = parse_head(text, &mut places) else {
+        return Err(Fault::F(3));
+    };
+    let spans = parts_of(start, text, &head, &places)?;
+    let body = Vec::new(*bytes.allocator());
+    let request = Request::new(bytes, places, spans, body, false);
+    match fields_fault(&request) {
+        None => Ok(request),
+        Some(fault) => Err(fault),
     }
 }
 
-fn are_lowercase(value: &[u8]) -> bool
-    ensures { result ≡ list_all is_ascii_lowercase value.now }
-{
-    value.iter().all(|b| b.is_ascii_lowercase())
-}
-
-// One or more letters a to z.
-fn is_letters(value: &[u8]) -> bool
-    ensures { result ≡ is_letters value.now }
-{
-    !value.is_empty() && are_lowercase(value)
-}
-
-// The one field is Host, and its value is one or more letters a to z.
-fn is_host_alone(text: &[u8], count: usize, places: &[HeaderSpan]) -> bool
-    requires count { count ≤ length places.now }
-    requires within { All (IsHeaderWithin (length text.now)) (take count places.now) }
-    ensures { result ≡ is_host_alone (map (header_bytes text.now) (take count places.now)) }
-{
-    if count != 1 {
-        return false;
-    }
-    let place = places[0];
-    place.name.of(text).eq_ignore_ascii_case(b"host") && is_letters(place.value.of(text))
-}
-
-// Whether the head has the form that is built so far.
-fn is_built(text: &[u8], head: &RequestSpans, places: &[HeaderSpan]) -> bool
+// Where the parts of a head are, or its refusal by method and target.
+fn parts_of(
+    start: usize,
+    text: &[u8],
+    head: &RequestSpans,
+    places: &[HeaderSpan],
+) -> Result<Spans, Fault>
     requires { ReadsHead text.now places.now head.now }
-    ensures { (h : RequestHead) → IsRequestAt text.now places.now head.now h → result ≡ is_built h }
-{
-    let is_get = head.method.of(text) == b"GET".as_slice();
-    let is_origin = is_origin_form(head.path.of(text));
-    let is_alone = is_host_alone(text, head.headers, places);
-    let is_http11 = head.version == 1;
-    is_get & is_http11 & is_origin & is_alone
-}
-
-// Where the parts of a head of origin form are.
-fn spans_of(start: usize, text: &[u8], head: &RequestSpans, places: &[HeaderSpan]) -> Spans
-    requires { ReadsHead text.now places.now head.now }
-    ensures start { result.start ≡ start }
-    ensures fit { SpansFit text.now places.now result }
+    ensures start { IfOk result (λ s. s.start ≡ start) }
+    ensures fit { IfOk result (λ s. SpansFit text.now places.now s) }
     ensures parts { (h : RequestHead) → IsRequestAt text.now places.now head.now h
-        → parts_at text.now places.now result [] false ≡ request_of h }
+        → MatchResult result (λ s. PartsAs text.now places.now s h) (λ f. head_fault h ≡ Some f) }
 {
-    let target = head.path;
-    let length = position_of_question(target.of(text));
-    let end = target.start + length;
-    Spans {
+    let method = head.method.of(text);
+    if method == b"CONNECT".as_slice() {
+        return Err(Fault::F(4));
+    }
+    let Some(target) = read_target(method, head.path.of(text)) else {
+        return Err(Fault::F(5));
+    };
+    let shift = head.path.start;
+    Ok(Spans {
         start,
         method: head.method,
-        path: Span {
-            start: target.start,
-            end,
-        },
-        query: Span {
-            start: target.end.min(end + 1),
-            end: target.end,
-        },
-        authority: None,
+        path: shifted(target.path, shift),
+        query: shifted(target.query, shift),
+        authority: shifted_if(target.authority, shift),
         version: version_of(head.version),
         fields: head.headers,
+    })
+}
+
+// The same bytes, counted from a place further in front.
+fn shifted(span: Span, by: usize) -> Span
+    requires order { span.start ≤ span.end }
+    requires room { by + span.end < 2 ^ 64 }
+    ensures { result ≡ shifted_by by span }
+{
+    Span {
+        start: by + span.start,
+        end: by + span.end,
+    }
+}
+
+// The same of a span that may not be there.
+fn shifted_if(span: Option<Span>, by: usize) -> Option<Span>
+    requires { ForSome span (λ s. (s.start ≤ s.end) × (by + s.end < 2 ^ 64)) }
+    ensures { result ≡ option_map (shifted_by by) span }
+{
+    match span {
+        None => None,
+        Some(span) => Some(shifted(span, by)),
     }
 }
 
@@ -127,34 +131,4 @@ fn version_of(minor: u8) -> Version
     } else {
         Version::Http11
     }
-}
-
-// The bytes before the first `?`, or all where there is none.
-fn position_of_question(target: &[u8]) -> usize
-    ensures value { result ≡ position_or_len is_question target.now }
-    ensures within { result ≤ length target.now }
-{
-    match memchr(b'?', target) {
-        Some(place) => place,
-        None => target.len(),
-    }
-}
-
-/// Reads a whole head, with the empty lines before it: its request, which has no body, or the first
-/// refusal that it earns. It takes no memory.
-pub(crate) fn read_head(bytes: Vec<u8>, mut places: Vec<HeaderSpan>) -> Result<Request, Fault>
-    requires { vec_len places ≡ 64 }
-    ensures { MatchResult result (IsGoodHead (head_text bytes.items)) (HeadRefusal (head_text bytes.items)) }
-{
-    let start = skip(&bytes);
-    let text = suffix(&bytes, start);
-    let Some(head) = parse_head(text, &mut places) else {
-        return Err(Fault::F(3));
-    };
-    if !is_built(text, &head, &places) {
-        return Err(Fault::F(0));
-    }
-    let spans = spans_of(start, text, &head, &places);
-    let body = Vec::new(*bytes.allocator());
-    Ok(Request::new(bytes, places, spans, body, false))
 }

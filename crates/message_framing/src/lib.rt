@@ -1,10 +1,12 @@
 //! Message framing: where a request begins and ends in the bytes of a connection (RFC 9112).
 #![tactic(auto)]
 
+mod fields;
 mod head;
 mod intake;
 mod laws;
 mod scan;
+mod target;
 
 pub use intake::{Feed, Intake};
-pub use laws::{one_answer_is_right, one_thing_stands, what_stands_stays};
+pub use laws::{one_answer_is_right, one_thing_stands, request_is_sound, what_stands, what_stands_stays};

@@ -1,47 +1,39 @@
 -- What stands in bytes that came in pieces.
-use Rattle.std.proofs.Common.{◌≡◌, ℕ, ◌+◌, ◌-◌, ◌<◌, ◌≤◌, ◌⊎◌, inl, inr, List, [], ◌∷◌, ◌++◌, length, take, drop, Option, None, Some, Result, Ok, Err, IfOk, Fits, w64, refl, ap, sym, ◌∙◌, subst, arith, length-append, length-drop, length-take, min}
+use Rattle.std.proofs.Common.{◌≡◌, ℕ, ◌+◌, ◌-◌, ◌<◌, ◌≤◌, ◌⊎◌, inl, inr, Bool, if◌then◌else◌, List, [], ◌∷◌, ◌++◌, length, take, drop, Option, None, Some, Result, Ok, Err, IfOk, IfSome, Fits, w64, refl, ap, sym, ◌∙◌, subst, arith, length-append, length-drop, length-take, min}
 use Rattle.std.proofs.Math.Seq.{take-add}
 use Rattle.std.proofs.lemmas.Bool.{cases_lt}
 use Rattle.std.proofs.lemmas.List.{append_assoc, append-nil, take-append-drop, take-append-le, take-take}
 use Rattle.rack_types.specs.declared.fault.Fault.{Fault}
 use Rattle.rack_types.specs.declared.fault.Fault.TheVariants.{F}
 use Rattle.rack_types.specs.Request.{Parts}
-use Rattle.rack_outside.specs.Told.{Appends, Rose}
+use Rattle.rack_outside.specs.Told.{Appends}
 use Rattle.rack_outside.specs.Source.{Gives, IsWhole}
 use Rattle.rack_outside.specs.declared.source.SourceRead.TheVariants as read
 use Rattle.message_framing.specs.declared.intake.Intake.{Intake}
 use Rattle.message_framing.specs.declared.intake.Feed.{Feed}
 use Rattle.message_framing.specs.declared.intake.Feed.TheVariants.{More, Whole, Refused}
-use Rattle.message_framing.specs.HeadText.{head_len, head_text, skip, lines_end}
-use Rattle.message_framing.specs.Head.{IsHead, IsNoHead, head_fault, request_of}
-use Rattle.message_framing.specs.Request.{head_limit, head_within, Refusal, IsRequest, Begins, Wanting}
-use Rattle.message_framing.specs.Intake.{Fed, IsRight, taken, FeedsTo}
+use Rattle.message_framing.specs.declared.intake.Standing.{Standing}
+use Rattle.message_framing.specs.declared.intake.Standing.TheVariants as at
+use Rattle.message_framing.specs.HeadText.{head_len, skip, lines_end}
+use Rattle.message_framing.specs.Request.{head_limit, Refusal, IsRequest, Begins, Wanting}
+use Rattle.message_framing.specs.Intake.{FedAt, Fed, IsRight, taken, FeedsTo}
 use Rattle.puma_top.specs.Reply.{hello_reply, fault_reply}
-use Rattle.puma_top.specs.Once.{First, refused, request, wanting, Stands, Arrives, WritesPart, Sends, Answered, AnsweredInPart, Ends}
+use Rattle.puma_top.specs.Served.{is_served, request_reply}
+use Rattle.puma_top.specs.Once.{First, refused, request, wanting, Stands, Arrives, Admits, WritesPart, TakesIn, Sends, Answered, AnsweredInPart, Ends}
 use Rattle.puma_top.specs.declared.once.Came.{Came}
 use Rattle.puma_top.specs.declared.once.Came.TheVariants as came
 use Rattle.puma_top.specs.declared.status.Status.{Status}
 use Rattle.puma_top.specs.declared.status.Status.TheVariants as status
-use Rattle.message_framing.proofs.RequestLemmas.{wanting as open_wanting, refusal_unique, begins_not_refused, too_long, refused_at, begins_so, begins_whole, begins_stays}
-
--- where a head text has ended, a request or a refusal stands
-not_ended : (b : List ℕ) → Wanting b → (n : ℕ) → head_within b ≡ Some n → IsNoHead (head_text (take n b))
-not_ended b w n is h head = go (head_fault h) refl
-  where
-    go : (o : Option Fault) → head_fault h ≡ o → ⊥
-    go None good = w.0 n (request_of h) (begins_so b n (request_of h) (record { end = is; good = (h, head, good, refl) }))
-    go (Some f) bad = w.1 f (refused_at b n f is (inr (h, head, bad)))
-
-not_long : (b : List ℕ) → Wanting b → head_limit < length b → (o : Option ℕ) → head_within b ≡ o → ⊥
-not_long b w long None is = w.1 (F 1) (too_long b is long)
-not_long b w long (Some n) is = w.1 (F 3) (refused_at b n (F 3) is (inl (not_ended b w n is, refl)))
+use Rattle.message_framing.proofs.RequestLemmas.{wanting as open_wanting, begins_unique, refusal_unique, begins_not_refused, begins_whole, begins_stays}
 
 -- where neither stands, few bytes came
-pub wanting_within : (b : List ℕ) → Wanting b → length b ≤ head_limit
-wanting_within b w = elim (cases_lt head_limit (length b)) [
-  | inl long ↦ absurd (not_long b w long (head_within b) refl)
-  | inr fits ↦ fits
-]
+pub fed_within : (i : Intake) (b : List ℕ) → Fed i b → Wanting b → length b ≤ head_limit
+fed_within i b fed w = go i.standing fed
+  where
+    go : (s : Standing) → FedAt s i b → length b ≤ head_limit
+    go at.Open h = h.within
+    go (at.Whole r) h = absurd (w.0 (length b) r (begins_whole b r h))
+    go (at.Refused f) h = absurd (w.1 f h)
 
 empty : head_len [] ≡ None
 unfolding head_len skip lines_end
@@ -105,6 +97,9 @@ falls count n some small = omega arith
 pub if_ok_at : {A E : Type 0} (P : A → Type 0) (r : Result A E) (x : A) → IfOk r P → r ≡ Ok x → P x
 if_ok_at {A} {E} P r x h is = subst (λ (s : Result A E). IfOk s P) is h
 
+pub if_some_at : {A : Type 0} (P : A → Type 0) (o : Option A) (x : A) → IfSome o P → o ≡ Some x → P x
+if_some_at {A} P o x h is = subst (λ (s : Option A). IfSome s P) is h
+
 -- the source has ended while nothing stood
 pub ended : (intake : Intake) (count : ℕ) (old mid new input_mid input_new : Option (List ℕ)) → Reading intake count old mid
     → (new ≡ mid) × IsWhole mid input_mid → input_new ≡ input_mid → Arrives came.Nothing old new input_new
@@ -163,17 +158,49 @@ feeds_more intake next count n old new f = record {
 pub feeds_within : (intake next : Intake) (count n : ℕ) (old new : Option (List ℕ)) → Feeds intake next count n More old new
     → count + n ≤ 32768
 feeds_within intake next count n old new f =
-    let few : length (f.bytes ++ f.piece) ≤ head_limit = wanting_within (f.bytes ++ f.piece) f.right in
+    let few : length (f.bytes ++ f.piece) ≤ head_limit = fed_within next (f.bytes ++ f.piece) f.fed f.right in
     omega (arith, few, f.size, f.count_is, length-append f.bytes f.piece)
 
-pub feeds_whole : (intake next : Intake) (count n m : ℕ) (old new input : Option (List ℕ)) → Feeds intake next count n (Whole m) old new
-    → Arrives came.Request old new input
-feeds_whole intake next count n m old new input f = record {
-  bytes = f.bytes ++ f.piece;
-  given = f.given;
-  stands = (length (f.bytes ++ take m f.piece), f.right.1.0, whole_begins f.bytes f.piece m f.right.1.0 f.right.1.1);
-  ends = tt;
-}
+-- the intake holds a whole request
+pub feeds_held : (intake next : Intake) (count n m : ℕ) (old new : Option (List ℕ)) → Feeds intake next count n (Whole m) old new
+    → (b : List ℕ) × (r : Parts) × Fed next b × IsRequest b r
+feeds_held intake next count n m old new f = (f.bytes ++ take m f.piece, f.right.1.0, f.fed, f.right.1.1)
+
+-- a request that was looked at is what came
+pub admitted : (intake next : Intake) (count n m : ℕ) (result : Result Came Status) (old new input : Option (List ℕ)) (before after : ℕ)
+    → Feeds intake next count n (Whole m) old new → ((b : List ℕ) (r : Parts) → Fed next b → IsRequest b r → Admits result r)
+    → TakesIn result old new input before after
+admitted intake next count n m result old new input before after f admits =
+    go result (admits (f.bytes ++ take m f.piece) f.right.1.0 f.fed f.right.1.1)
+  where
+    begins : Begins (f.bytes ++ f.piece) (length (f.bytes ++ take m f.piece)) f.right.1.0
+    begins = whole_begins f.bytes f.piece m f.right.1.0 f.right.1.1
+    go : (a : Result Came Status) → Admits a f.right.1.0 → TakesIn a old new input before after
+    go (Ok came.Served) h = record {
+      bytes = f.bytes ++ f.piece;
+      given = f.given;
+      stands = (length (f.bytes ++ take m f.piece), f.right.1.0, begins, h);
+      ends = tt;
+    }
+    go (Ok came.Unserved) h = record {
+      bytes = f.bytes ++ f.piece;
+      given = f.given;
+      stands = (length (f.bytes ++ take m f.piece), f.right.1.0, begins, h);
+      ends = tt;
+    }
+    go (Ok (came.Refused fault)) h = absurd h
+    go (Ok came.Nothing) h = absurd h
+    go (Err status.Done) h = absurd h
+    go (Err status.NoMemory) h = tt
+    go (Err status.Usage) h = absurd h
+    go (Err (status.File why)) h = absurd h
+    go (Err (status.Stack line rule)) h = absurd h
+    go (Err status.SourceFault) h = absurd h
+    go (Err status.SinkFault) h = absurd h
+
+-- one request stands in these bytes, so what was found of it is found of the other
+pub same_request : (b : List ℕ) (r q : Parts) → IsRequest b r → IsRequest b q → r ≡ q
+same_request b r q x y = (begins_unique b (length b) (length b) r q (begins_whole b r x) (begins_whole b q y)).1
 
 pub feeds_refused : (intake next : Intake) (count n : ℕ) (fault : Fault) (old new input : Option (List ℕ))
     → Feeds intake next count n (Refused fault) old new → Arrives (came.Refused fault) old new input
@@ -189,10 +216,18 @@ pub record Replies (kind body bytes text : List ℕ) : Type 0 where
   pub first : First kind body bytes text
   pub some : text ≡ [] → ⊥
 
-pub replies_hello : (kind body bytes text : List ℕ) → Stands came.Request bytes → text ≡ hello_reply kind body → Replies kind body bytes text
-replies_hello kind body bytes text stands is = record {
-  first = request stands.0 stands.1 stands.2 is;
+pub replies_served : (kind body bytes text : List ℕ) → Stands came.Served bytes → text ≡ hello_reply kind body → Replies kind body bytes text
+replies_served kind body bytes text stands is = record {
+  first = request stands.0 stands.1 stands.2
+    (is ∙ ap (λ (b : Bool). if b then hello_reply kind body else fault_reply (F 0)) (sym stands.3));
   some = λ none. (let clash : hello_reply kind body ≡ [] = sym is ∙ none in cc);
+}
+
+pub replies_unserved : (kind body bytes text : List ℕ) → Stands came.Unserved bytes → text ≡ fault_reply (F 0) → Replies kind body bytes text
+replies_unserved kind body bytes text stands is = record {
+  first = request stands.0 stands.1 stands.2
+    (is ∙ ap (λ (b : Bool). if b then hello_reply kind body else fault_reply (F 0)) (sym stands.3));
+  some = λ none. (let clash : fault_reply (F 0) ≡ [] = sym is ∙ none in cc);
 }
 
 pub replies_fault : (kind body bytes text : List ℕ) (fault : Fault) → Refusal bytes fault → text ≡ fault_reply fault → Replies kind body bytes text
@@ -229,7 +264,8 @@ one_first kind body bytes text other (refused f a x) (refused g b y) = x ∙ ap 
 one_first kind body bytes text other (refused f a x) (request n r b y) = absurd (begins_not_refused bytes n r f b a)
 one_first kind body bytes text other (refused f a x) (wanting b y) = absurd (b.1 f a)
 one_first kind body bytes text other (request n r a x) (refused f b y) = absurd (begins_not_refused bytes n r f a b)
-one_first kind body bytes text other (request n r a x) (request m q b y) = x ∙ sym y
+one_first kind body bytes text other (request n r a x) (request m q b y) =
+    x ∙ ap (request_reply kind body) (begins_unique bytes n m r q a b).1 ∙ sym y
 one_first kind body bytes text other (request n r a x) (wanting b y) = absurd (b.0 n r a)
 one_first kind body bytes text other (wanting a x) (refused f b y) = absurd (a.1 f b)
 one_first kind body bytes text other (wanting a x) (request n r b y) = absurd (a.0 n r b)

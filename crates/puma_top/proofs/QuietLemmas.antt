@@ -1,5 +1,5 @@
 -- What follows of a command from what its parts did.
-use Rattle.std.proofs.Common.{◌≡◌, ℕ, ◌+◌, ◌⊎◌, inl, inr, List, [], ◌∷◌, ◌++◌, length, Option, None, Some, refl, ap, sym, ◌∙◌, subst, arith, length-append}
+use Rattle.std.proofs.Common.{◌≡◌, ℕ, ◌+◌, inl, inr, List, [], ◌∷◌, ◌++◌, length, Option, Some, ap, sym, ◌∙◌, subst, arith, length-append}
 use Rattle.std.proofs.lemmas.List.{append_cancel_left}
 use Rattle.rack_outside.specs.declared.files.FileRead.{FileRead}
 use Rattle.rack_outside.specs.declared.files.FileRead.TheVariants as read
@@ -8,7 +8,7 @@ use Rattle.rack_outside.specs.Files.{Shelf}
 use Rattle.puma_top.specs.Stack.{IsHello, IsNoHello}
 use Rattle.puma_top.specs.Once.{Ends}
 use Rattle.puma_top.specs.Status.{UnlessNoMemory, OnUsage}
-use Rattle.puma_top.specs.Quiet.{Reads, Read, ReadNamed, IsStack, Ran}
+use Rattle.puma_top.specs.Quiet.{Reads, ReadNamed, IsStack, Ran}
 use Rattle.puma_top.specs.declared.status.FileWhy.TheVariants as why
 use Rattle.puma_top.specs.declared.status.Status.{Status}
 use Rattle.puma_top.specs.declared.status.Status.TheVariants as status
@@ -42,14 +42,15 @@ one_note noted notes before x y old adds new =
     let ends : x ∷ [] ≡ y ∷ [] = append_cancel_left before (x ∷ []) (y ∷ []) lists in
     cc
 
+same_text : (t u : List ℕ) → read.Text t ≡ read.Text u → t ≡ u
+same_text t u same = cc
+
 no_stack_here : (file : Option (List ℕ)) (kind body : List ℕ) (held holds : Option Shelf) (noted notes : Option Reads) (name text : List ℕ) (before : Reads)
     → IsStack file kind body held holds noted notes → noted ≡ Some before → notes ≡ Some (before ++ ((name, read.Text text) ∷ [])) → IsNoHello text → ⊥
 no_stack_here file kind body held holds noted notes name text before stack old new bad =
-    let same : (stack.was.name, read.Text stack.text) ≡ (name, read.Text text) =
-    one_note noted notes before (stack.was.name, read.Text stack.text) (name, read.Text text) old stack.was.was.noting new in
-    let answers : read.Text stack.text ≡ read.Text text = ap (λ (p : List ℕ × FileRead). p.1) same in
-    let texts : stack.text ≡ text = cc in
-    bad kind body (subst (λ (w : List ℕ). IsHello w kind body) texts stack.good)
+    let answers : read.Text stack.text ≡ read.Text text =
+    ap (λ (p : List ℕ × FileRead). p.1) (one_note noted notes before (stack.was.name, read.Text stack.text) (name, read.Text text) old stack.was.was.noting new) in
+    bad kind body (subst (λ (w : List ℕ). IsHello w kind body) (same_text stack.text text answers) stack.good)
 
 other_answer : (file : Option (List ℕ)) (answer : FileRead) (held holds : Option Shelf) (noted notes : Option Reads) (name text : List ℕ) (before : Reads)
     → ReadNamed file answer held holds noted notes → noted ≡ Some before → notes ≡ Some (before ++ ((name, read.Text text) ∷ [])) → answer ≡ read.Text text

@@ -1,32 +1,35 @@
 -- What one connection's bytes are answered by.
-use Rattle.std.specs.Prelude.{◌≡◌, ℕ, ◌<◌, ◌⊎◌, List, [], ◌∷◌, ◌++◌, length, take, Option, None, Some, Result, Ok, Err, ⊤}
+use Rattle.std.specs.Prelude.{◌≡◌, ℕ, ◌<◌, ◌⊎◌, true, false, List, [], ◌∷◌, ◌++◌, length, take, Option, None, Some, Result, Ok, Err, ⊤}
 use Rattle.rack_types.specs.declared.fault.Fault.{Fault}
 use Rattle.rack_types.specs.Request.{Parts}
 use Rattle.rack_outside.specs.Told.{Rose, Appends}
 use Rattle.rack_outside.specs.Source.{IsWhole}
 use Rattle.message_framing.specs.Request.{Begins, Refusal, Wanting}
-use Rattle.puma_top.specs.Reply.{hello_reply, fault_reply}
+use Rattle.puma_top.specs.Reply.{fault_reply}
+use Rattle.puma_top.specs.Served.{is_served, request_reply}
 use Rattle.puma_top.specs.declared.status.Status.{Status}
 use Rattle.puma_top.specs.declared.status.Status.TheVariants.{Done, NoMemory, Usage, File, Stack, SourceFault, SinkFault}
 use Rattle.puma_top.specs.declared.once.Came.{Came}
-use Rattle.puma_top.specs.declared.once.Came.TheVariants.{Request, Refused, Nothing}
+use Rattle.puma_top.specs.declared.once.Came.TheVariants.{Served, Unserved, Refused, Nothing}
 
 -- the first thing that stands in these bytes, a refusal or a request, is answered by what is
 -- written; nothing is written where neither stands
 pub data First (kind body bytes written : List ℕ) : Type 0 where
   refused : (fault : Fault) → Refusal bytes fault → written ≡ fault_reply fault → First kind body bytes written
-  request : (n : ℕ) (request : Parts) → Begins bytes n request → written ≡ hello_reply kind body → First kind body bytes written
+  request : (n : ℕ) (request : Parts) → Begins bytes n request → written ≡ request_reply kind body request → First kind body bytes written
   wanting : Wanting bytes → written ≡ [] → First kind body bytes written
 
 -- what stands in these bytes
 abbrev pub Stands : Came → List ℕ → Type 0
-Stands Request bytes = (n : ℕ) × (request : Parts) × Begins bytes n request
+Stands Served bytes = (n : ℕ) × (request : Parts) × Begins bytes n request × (is_served request ≡ true)
+Stands Unserved bytes = (n : ℕ) × (request : Parts) × Begins bytes n request × (is_served request ≡ false)
 Stands (Refused fault) bytes = Refusal bytes fault
 Stands Nothing bytes = Wanting bytes
 
 -- the input was read to its end, where nothing stands
 abbrev pub EndsIfNothing : Came → Option (List ℕ) → Option (List ℕ) → Type 0
-EndsIfNothing Request given input = ⊤
+EndsIfNothing Served given input = ⊤
+EndsIfNothing Unserved given input = ⊤
 EndsIfNothing (Refused fault) given input = ⊤
 EndsIfNothing Nothing given input = IsWhole given input
 
@@ -36,6 +39,20 @@ pub record Arrives (came : Came) (old new input : Option (List ℕ)) : Type 0 wh
   pub given : Appends old new bytes
   pub stands : Stands came bytes
   pub ends : EndsIfNothing came new input
+
+-- a whole request was looked at, and its environment made
+abbrev pub Admits : Result Came Status → Parts → Type 0
+Admits (Ok Served) r = is_served r ≡ true
+Admits (Ok Unserved) r = is_served r ≡ false
+Admits (Ok (Refused fault)) r = ⊥
+Admits (Ok Nothing) r = ⊥
+Admits (Err Done) r = ⊥
+Admits (Err NoMemory) r = ⊤
+Admits (Err Usage) r = ⊥
+Admits (Err (File why)) r = ⊥
+Admits (Err (Stack line rule)) r = ⊥
+Admits (Err SourceFault) r = ⊥
+Admits (Err SinkFault) r = ⊥
 
 -- reading until something stands
 abbrev pub TakesIn : Result Came Status → Option (List ℕ) → Option (List ℕ) → Option (List ℕ) → ℕ → ℕ → Type 0

@@ -5,6 +5,7 @@ mod laws;
 mod once;
 mod quiet;
 mod reply;
+mod served;
 mod stack;
 mod status;
 mod words;

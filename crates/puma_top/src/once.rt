@@ -1,13 +1,17 @@
 // One connection: what comes is read, and the first thing that stands in it is answered.
-ghost use Rattle.std.specs.Prelude.{◌≡◌, length};
-ghost use Rattle.puma_top.specs.Once.{Ends, TakesIn, Sends};
+ghost use Rattle.std.specs.Prelude.{◌≡◌, ℕ, List, IfOk, vec_len};
+ghost use Rattle.rack_types.specs.Request.{Parts};
+ghost use Rattle.message_framing.specs.Intake.{Fed};
+ghost use Rattle.message_framing.specs.Request.{IsRequest};
+ghost use Rattle.puma_top.specs.Once.{Ends, Admits, TakesIn, Sends};
 
 use crate::Status;
 use crate::reply::{fault_reply, hello_reply};
+use crate::served::{environment, is_served};
 use crate::stack::Hello;
 use message_framing::{Feed, Intake};
 use rack_outside::{Sink, SinkWrite, Source, SourceRead};
-use rack_types::{Fault, Limits};
+use rack_types::{Fault, Limits, NoMemory};
 use std::alloc::Global;
 
 // The bytes that one read may give.
@@ -16,8 +20,10 @@ const PIECE: usize = 16_384;
 /// What came first.
 #[derive(Clone, Copy)]
 pub(crate) enum Came {
-    /// A whole request.
-    Request,
+    /// A whole request that the stack answers.
+    Served,
+    /// A whole request whose reply is not built yet.
+    Unserved,
     /// Bytes that are refused.
     Refused(Fault),
     /// The end of the input, and neither of the two before it.
@@ -40,7 +46,8 @@ pub(crate) fn once<S: Source, K: Sink>(
         Err(status) => return status,
     };
     let reply = match came {
-        Came::Request => hello_reply(alloc, hello),
+        Came::Served => hello_reply(alloc, hello),
+        Came::Unserved => fault_reply(alloc, Fault::F(0)),
         Came::Refused(fault) => fault_reply(alloc, fault),
         Came::Nothing => return Status::Done,
     };
@@ -57,7 +64,7 @@ fn take_in<S: Source>(alloc: Global, src: &mut S) -> Result<Came, Status>
     let Ok(mut intake) = Intake::new(alloc, Limits::stock()) else {
         return Err(Status::NoMemory);
     };
-    let Ok(mut room) = vec![in alloc; 0u8; PIECE] else {
+    let Ok(mut room) = room_for_pieces(alloc) else {
         return Err(Status::NoMemory);
     };
     // What was fed so far: a head that has not ended has few bytes, so the loop ends.
@@ -70,11 +77,33 @@ fn take_in<S: Source>(alloc: Global, src: &mut S) -> Result<Came, Status>
         };
         match intake.feed(&room[..n]) {
             Ok(Feed::More) => count += n,
-            Ok(Feed::Whole(_)) => return Ok(Came::Request),
+            Ok(Feed::Whole(_)) => return admit(alloc, &intake),
             Ok(Feed::Refused(fault)) => return Ok(Came::Refused(fault)),
             Err(_) => return Err(Status::NoMemory),
         }
     }
+}
+
+// The room that each piece is read into.
+fn room_for_pieces(alloc: Global) -> Result<Vec<u8>, NoMemory>
+    ensures { IfOk result (λ room. vec_len room ≡ 16384) }
+{
+    vec![in alloc; 0u8; PIECE]
+}
+
+// Tells whether the stack answers the request that stands, and makes its environment.
+fn admit(alloc: Global, intake: &Intake) -> Result<Came, Status>
+    requires { (b : List ℕ) × (r : Parts) × Fed intake.now b × IsRequest b r }
+    ensures { (b : List ℕ) (r : Parts) → Fed intake.now b → IsRequest b r → Admits result r }
+{
+    let request = intake.request().unwrap();
+    if !is_served(request) {
+        return Ok(Came::Unserved);
+    }
+    let Ok(_) = environment(alloc, request) else {
+        return Err(Status::NoMemory);
+    };
+    Ok(Came::Served)
 }
 
 // Writes the text, in one write where the sink takes it whole.

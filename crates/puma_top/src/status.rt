@@ -15,7 +15,7 @@ pub enum FileWhy {
 /// How a command ended.
 #[derive(Clone, Copy, Debug, PartialEq, Eq)]
 pub enum Status {
-    /// The connection was served to its end.
+    /// The command ran to its end.
     Done,
     /// Memory was refused.
     NoMemory,

@@ -68,11 +68,57 @@ fn answers_the_first_thing_that_stands(rt: HostRuntime) -> Result<(), Fail> {
         (b"".as_slice(), b"".as_slice()),
         (b"GET / HT".as_slice(), b"".as_slice()),
         (b"GET / HTTP/1.0\r\n\r\n".as_slice(), not_built),
+        (b"HEAD / HTTP/1.1\r\nHost: a\r\n\r\n".as_slice(), not_built),
+        (
+            b"GET / HTTP/1.1\r\nHost: a\r\nConnection: x , Close\r\n\r\n".as_slice(),
+            not_built,
+        ),
+        (
+            b"POST / HTTP/1.1\r\nHost: a\r\nContent-Length: 1\r\n\r\nx".as_slice(),
+            not_built,
+        ),
+        (
+            b"OPTIONS * HTTP/1.1\r\nhost:\r\nConnection: keep-alive\r\nContent-Length: 0\r\n\r\n".as_slice(),
+            REPLY,
+        ),
         (b"GET /\r\n\r\n".as_slice(), no_head),
     ] {
         let (status, sent) = serve(rt.alloc(), HELLO, input, &[], (&[], &[]))?;
         assert_eq!(rt; status, Status::Done);
         assert_eq!(rt; sent.as_slice(), written);
+    }
+    Ok(())
+}
+
+#[test]
+fn refuses_the_first_that_stands(rt: HostRuntime) -> Result<(), Fail> {
+    for (head, line) in [
+        (
+            b"POST / HTTP/1.1\r\nHost: a\r\nContent-Length: 3\r\nTransfer-Encoding: chunked\r\n\r\n".as_slice(),
+            "HTTP/1.1 400 Bad Request\r\nx-puma-fault: F8\r\n",
+        ),
+        (
+            b"GET / HTTP/1.1\r\n\r\n".as_slice(),
+            "HTTP/1.1 400 Bad Request\r\nx-puma-fault: F6\r\n",
+        ),
+        (
+            b"GET / HTTP/1.1\r\nHost: a\r\nContent-Length: 99999999999999999999\r\n\r\n".as_slice(),
+            "HTTP/1.1 413 Content Too Large\r\nx-puma-fault: F12\r\n",
+        ),
+        (
+            b"CONNECT a:1 HTTP/1.1\r\nHost: a\r\n\r\n".as_slice(),
+            "HTTP/1.1 501 Not Implemented\r\nx-puma-fault: F4\r\n",
+        ),
+        (
+            b"GET a HTTP/1.1\r\nHost: a\r\nHost: a\r\n\r\n".as_slice(),
+            "HTTP/1.1 400 Bad Request\r\nx-puma-fault: F5\r\n",
+        ),
+    ] {
+        for cut in [b"".as_slice(), b"\x07".as_slice()] {
+            let (status, sent) = serve(rt.alloc(), HELLO, head, cut, (&[], &[]))?;
+            assert_eq!(rt; status, Status::Done);
+            assert!(rt; sent.starts_with(line.as_bytes()), "{line}");
+        }
     }
     Ok(())
 }

@@ -1,5 +1,5 @@
 -- What a request says: the parts of its head, and its body (RFC 9112, sections 3, 5 and 6).
-use Rattle.std.specs.Prelude.{◌≡◌, ℕ, ◌≤◌, Bool, List, [], ◌∷◌, length, take, map, slice_range, All, Option, None, Some, ⊤}
+use Rattle.std.specs.Prelude.{ℕ, ◌≤◌, Bool, List, [], ◌∷◌, length, take, map, All, Option, None, Some, ⊤}
 use Rattle.httparse.specs.declared.spans.Span.{Span}
 use Rattle.httparse.specs.declared.spans.HeaderSpan.{HeaderSpan}
 use Rattle.httparse.specs.Spans.{span_bytes, IsWithin, IsHeaderWithin, header_bytes}

@@ -1,14 +1,21 @@
-//! The values that the server's crates share: bytes, limits, faults and a request.
+//! The values that the server's crates share: bytes, limits, faults, a request, its environment and
+//! its body, and the names of a connection's two ends.
 #![tactic(auto)]
 
 mod bytes;
+mod env;
 mod fault;
+mod input;
 mod limits;
+mod peer;
 mod request;
 
 pub use bytes::Bytes;
+pub use env::Env;
 pub use fault::Fault;
+pub use input::Input;
 pub use limits::{Limits, Version};
+pub use peer::{Local, Peer};
 pub use request::{Request, Spans};
 
 /// A refused allocation.

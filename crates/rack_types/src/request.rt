@@ -1,9 +1,12 @@
 // A request as it came, lent in parts.
-ghost use Rattle.std.specs.Prelude.{◌≡◌, ◌≤◌, ◌<◌, Some, drop, length, map, slice_get, vec_len};
+ghost use Rattle.std.specs.Prelude.{◌≡◌, ◌≤◌, ◌<◌, Some, codes, drop, length, map, slice_get, vec_len};
+ghost use Rattle.std.specs.Option.{option_copied};
+ghost use Rattle.rack_types.specs.Fields.{goes_on, persists_by, values_of};
 ghost use Rattle.rack_types.specs.Request.{SpansFit, parts_at};
 
 use crate::Version;
 use httparse::spans::{HeaderSpan, Span};
+use rack_text::{list_has, same_ignoring_case};
 use std::marker::Model;
 
 /// Where the parts of a head are in its bytes.
@@ -26,7 +29,8 @@ pub struct Spans {
 
 /// A whole request. It lends its parts from the bytes that came, and copies none of them.
 ///
-/// A contract sees it as its `Parts`.
+/// A contract sees it as its `Parts`. What is said below of the form of a part holds of each request
+/// that an intake gives.
 #[derive(Drop)]
 pub struct Request {
     head: Vec<u8>,
@@ -91,6 +95,16 @@ impl Request {
         self.spans.query.of(text_of(&self.head, self.spans.start))
     }
 
+    /// The authority of an absolute target: a valid host that is not empty.
+    pub fn authority(&self) -> Option<&[u8]>
+        ensures { option_copied result ≡ self.now.authority }
+    {
+        match self.spans.authority {
+            Some(span) => Some(span.of(text_of(&self.head, self.spans.start))),
+            None => None,
+        }
+    }
+
     /// The version that the request line names.
     pub fn version(&self) -> Version
         ensures { result ≡ self.now.version }
@@ -110,7 +124,9 @@ impl Request {
         requires { i < length self.now.fields }
         ensures { slice_get (map (λ f. f.0) self.now.fields) i ≡ Some result.now }
     {
-        self.fields[i].name.of(text_of(&self.head, self.spans.start))
+        self.fields[i]
+            .name
+            .of(text_of(&self.head, self.spans.start))
     }
 
     /// The value of the field at this place, without the white space around it.
@@ -118,7 +134,51 @@ impl Request {
         requires { i < length self.now.fields }
         ensures { slice_get (map (λ f. f.1) self.now.fields) i ≡ Some result.now }
     {
-        self.fields[i].value.of(text_of(&self.head, self.spans.start))
+        self.fields[i]
+            .value
+            .of(text_of(&self.head, self.spans.start))
+    }
+
+    /// The body's bytes: of chunks, their data joined.
+    pub fn body(&self) -> &[u8]
+        ensures { result.now ≡ self.now.body }
+    {
+        &self.body
+    }
+
+    /// Whether the body came in chunks.
+    pub fn chunked(&self) -> bool
+        ensures { result ≡ self.now.chunked }
+    {
+        self.chunked
+    }
+
+    /// Whether the connection may go on behind this request (RFC 9112, section 9.3): in HTTP/1.1
+    /// unless a Connection field has `close`, in HTTP/1.0 only where one has `keep-alive` and none
+    /// has `close`.
+    pub fn persists(&self) -> bool
+        ensures { result ≡ persists_by self.now.version (values_of (codes "connection") self.now.fields) }
+    {
+        let mut close = false;
+        let mut keep_alive = false;
+        for i in 0..self.field_count() {
+            if same_ignoring_case(self.field_name(i), b"connection") {
+                let value = self.field_value(i);
+                close |= list_has(value, b"close");
+                keep_alive |= list_has(value, b"keep-alive");
+            }
+        }
+        goes_on(self.version(), close, keep_alive)
+    }
+}
+
+// Whether a connection of this version goes on, by what its Connection fields ask.
+fn goes_on(version: Version, close: bool, keep_alive: bool) -> bool
+    ensures { result ≡ goes_on version close keep_alive }
+{
+    match version {
+        Version::Http11 => !close,
+        Version::Http10 => keep_alive && !close,
     }
 }
 

@@ -6,6 +6,4 @@ returns c = record {
   request = λ n m r q x y. begins_unique _ n m r q x y;
   refusal = λ f g x y. refusal_unique _ f g x y;
   apart = λ n r f x y. begins_not_refused _ n r f x y;
-  wanting = λ n r f x. (λ y. x.0 n r y, λ y. x.1 f y);
-  some = λ x y. (x, y);
 }

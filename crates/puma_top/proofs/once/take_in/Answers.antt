@@ -1,14 +1,13 @@
-use Rattle.std.proofs.Common.{[], refl, ap, take, ◌∙◌}
-use Rattle.message_framing.specs.declared.intake.Feed.{Feed}
+use Rattle.std.proofs.Common.{[], refl, ◌∙◌}
 use Rattle.message_framing.specs.declared.intake.Feed.TheVariants.{More, Whole, Refused}
-use Rattle.puma_top.proofs.OnceLemmas.{Reading, wanting_nil, appends_none, le_refl, le_then, fits_small, falls, ended, piece_is, Feeds, feeds, feeds_more, feeds_within, feeds_whole, feeds_refused}
+use Rattle.puma_top.proofs.OnceLemmas.{Reading, wanting_nil, appends_none, le_refl, le_then, fits_small, falls, ended, piece_is, Feeds, feeds, feeds_more, feeds_within, feeds_held, admitted, feeds_refused}
 use Rattle.puma_top.proofs.once.take_in.Goals as goal
 
 pub pieces-init : goal.pieces-init
 pieces-init g c = record {
   reading = record { bytes = []; fed = c.in-Ok.ensures; given = appends_none _; wanting = wanting_nil; size = refl };
   later = le_refl _;
-  room = c.in-Ok-vec.ensures.len;
+  room = c.in-Ok-room_for_pieces.ensures;
 }
 
 pub returns-in-End : goal.returns-in-End
@@ -45,6 +44,15 @@ pieces-preserved g c =
       room = c.pieces.invariant.room;
     }
 
+pub admit-requires : goal.admit-requires
+admit-requires g c =
+    let piece = piece_is c.in-Bytes.n c.pieces.room.len c.read.new.room _ c.deref.result.now c.deref.ensures.value
+    (c.read.auto.room ∙ c.as_mut_slice.ensures.len) c.in-Bytes.ensures.gives.1 in
+    let fed : Feeds c.pieces.intake c.feed.new.self c.pieces.count c.in-Bytes.n (Whole c.in-Ok-Whole.field-0-0) (g.S.Source.given c.args.src.now) (g.S.Source.given c.read.new.self) =
+    feeds _ _ _ _ c.in-Ok-Whole.field-0 (Whole c.in-Ok-Whole.field-0-0) _ _ _ _ c.read.new.room _ c.pieces.invariant.reading c.in-Bytes.ensures.gives piece
+    c.in-Ok-Whole.ensures.answers c.in-Ok-Whole.field-0-is in
+    feeds_held _ _ _ _ c.in-Ok-Whole.field-0-0 _ _ fed
+
 pub returns-in-Ok-Whole : goal.returns-in-Ok-Whole
 returns-in-Ok-Whole g c =
     let piece = piece_is c.in-Bytes.n c.pieces.room.len c.read.new.room _ c.deref.result.now c.deref.ensures.value
@@ -52,7 +60,7 @@ returns-in-Ok-Whole g c =
     let fed : Feeds c.pieces.intake c.feed.new.self c.pieces.count c.in-Bytes.n (Whole c.in-Ok-Whole.field-0-0) (g.S.Source.given c.args.src.now) (g.S.Source.given c.read.new.self) =
     feeds _ _ _ _ c.in-Ok-Whole.field-0 (Whole c.in-Ok-Whole.field-0-0) _ _ _ _ c.read.new.room _ c.pieces.invariant.reading c.in-Bytes.ensures.gives piece
     c.in-Ok-Whole.ensures.answers c.in-Ok-Whole.field-0-is in
-    feeds_whole _ _ _ _ c.in-Ok-Whole.field-0-0 _ _ _ fed
+    admitted _ _ _ _ c.in-Ok-Whole.field-0-0 _ _ _ _ _ _ fed c.admit.ensures
 
 pub returns-in-Ok-Refused : goal.returns-in-Ok-Refused
 returns-in-Ok-Refused g c =

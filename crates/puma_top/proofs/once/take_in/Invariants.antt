@@ -1,4 +1,4 @@
-use Rattle.std.proofs.Common.{◌≡◌, ◌-◌, ◌≤◌, length, vec_len}
+use Rattle.std.proofs.Common.{◌≡◌, ◌-◌, ◌≤◌, vec_len}
 use Rattle.puma_top.proofs.OnceLemmas.{Reading}
 use Rattle.puma_top.proofs.once.take_in.Given as goal
 

@@ -1,4 +1,4 @@
-use Rattle.std.proofs.Common.{List, ℕ, ap, ◌∙◌}
+use Rattle.std.proofs.Common.{ap, ◌∙◌}
 use Rattle.puma_top.proofs.ReplyLemmas.{fault_text}
 use Rattle.puma_top.proofs.reply.fault_reply.Goals as goal
 

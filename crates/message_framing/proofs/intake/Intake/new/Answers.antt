@@ -1,4 +1,4 @@
-use Rattle.std.proofs.Common.{refl, arith, ◌∙◌, ap}
+use Rattle.std.proofs.Common.{refl, arith, ap}
 use Rattle.message_framing.specs.HeadText.{head_len, skip, lines_end}
 use Rattle.message_framing.specs.Scan.{behind}
 use Rattle.message_framing.proofs.intake.Intake.new.Goals as goal

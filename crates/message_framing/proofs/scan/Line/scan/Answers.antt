@@ -17,19 +17,19 @@ returns-in-None-clause-line c =
 pub returns-in-Ended-clause-end : goal.returns-in-Ended-clause-end
 returns-in-Ended-clause-end c =
     let ready : IsReady c.args.self.now c.loop-i.self c.args.piece.now c.match-self.i = elim c.match-self.branch [
-        in-Text+in-Some w ↦
-        ready_at_feed _ _ _ _ _ _ _ c.loop-i.invariant w.in-Text.is w.suffix.ensures w.in-Some.ensures.0.high w.in-Some.ensures.0.before w.i-is
+      | in-Text+in-Some w ↦
+          ready_at_feed _ _ _ _ _ _ _ c.loop-i.invariant w.in-Text.is w.suffix.ensures w.in-Some.ensures.0.high w.in-Some.ensures.0.before w.i-is
       | in_default w ↦ ready_here _ _ _ _ _ c.loop-i.invariant c.loop-i-test.true w.i-is
-      ] in
+    ] in
     (ready_step _ _ _ _ _ ready c.next.ensures).0 c.in-Ended.is
 
 pub loop-i-preserved : goal.loop-i-preserved
 loop-i-preserved c =
     let ready : IsReady c.args.self.now c.loop-i.self c.args.piece.now c.match-self.i = elim c.match-self.branch [
-        in-Text+in-Some w ↦
-        ready_at_feed _ _ _ _ _ _ _ c.loop-i.invariant w.in-Text.is w.suffix.ensures w.in-Some.ensures.0.high w.in-Some.ensures.0.before w.i-is
+      | in-Text+in-Some w ↦
+          ready_at_feed _ _ _ _ _ _ _ c.loop-i.invariant w.in-Text.is w.suffix.ensures w.in-Some.ensures.0.high w.in-Some.ensures.0.before w.i-is
       | in_default w ↦ ready_here _ _ _ _ _ c.loop-i.invariant c.loop-i-test.true w.i-is
-      ] in
+    ] in
     (ready_step _ _ _ _ _ ready c.next.ensures).1 c.in_default-self.not-Ended
 
 pub returns-clause-end : goal.returns-clause-end

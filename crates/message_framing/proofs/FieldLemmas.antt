@@ -1,0 +1,186 @@
+-- Fields and codings that are looked at one behind the other.
+use Rattle.std.proofs.Common.{◌≡◌, ◌≢◌, ℕ, ◌+◌, ◌<◌, true, false, nat_lt, if◌then◌else◌, List, [], ◌∷◌, ◌++◌, length, take, drop, map, slice_get, Bor, MatchOption, Option, None, Some, refl, ap, sym, ◌∙◌, arith, subst, length-append, inl, inr}
+use Rattle.std.proofs.lemmas.List.{append_assoc, append-nil, map-append, take-append-drop}
+use Rattle.std.proofs.lemmas.List.Elements.{filter-append}
+use Rattle.std.proofs.lemmas.Grind.{flat_map-append}
+use Rattle.std.specs.List.{flat_map}
+use Rattle.std.specs.Option.{unwrap_or}
+use Rattle.rack_text.specs.Lists.{elements}
+use Rattle.std.proofs.lemmas.Bool.{lt-ltb, cases_lt, le-ltb}
+use Rattle.rack_text.specs.Case.{same_ignoring_case}
+use Rattle.rack_types.specs.Fields.{values_of}
+use Rattle.rack_types.proofs.FieldLemmas.{IsFieldAt, take_field, values_more, field_at_name}
+use Rattle.std.specs.Prelude.{codes}
+use Rattle.message_framing.specs.declared.fields.Occurs.{Occurs}
+use Rattle.message_framing.specs.declared.fields.Occurs.TheVariants.{Never, Once, Again}
+use Rattle.message_framing.specs.declared.fields.Codings.{Codings}
+use Rattle.rack_types.specs.declared.fault.Fault.TheVariants.{F}
+use Rattle.rack_types.specs.declared.limits.Version.{Version}
+use Rattle.message_framing.specs.Framing.{ends_chunked, is_host_right, fields_fault, body_fault, lengths_fault, transfer_fault}
+use Rattle.message_framing.specs.Found.{OccursAs, CodingsAs}
+
+-- the last coding of a list with one more
+pub ends_chunked-push : (names : List (List ℕ)) (name : List ℕ) → ends_chunked (names ++ name ∷ []) ≡ same_ignoring_case name (codes "chunked")
+ends_chunked-push [] name = refl
+ends_chunked-push (n ∷ []) name = refl
+ends_chunked-push (n ∷ m ∷ names) name = ends_chunked-push (m ∷ names) name
+
+-- a test of a number and of the next
+both_tests : (n m : ℕ) → m ≡ n + 1 → nat_lt 0 n ≡ nat_lt 1 m
+both_tests n m is = elim (cases_lt 0 n) [
+  | inl above ↦ lt-ltb 0 n above ∙ sym (lt-ltb 1 m (omega (arith, above, is)))
+  | inr none ↦ le-ltb 0 n none ∙ sym (le-ltb 1 m (omega (arith, none, is)))
+]
+
+-- one coding more
+pub codings_push : (c d : Codings) (names : List (List ℕ)) (name : List ℕ) → CodingsAs c names → d.some ≡ true → d.more ≡ c.some
+    → d.ends_chunked ≡ same_ignoring_case name (codes "chunked") → CodingsAs d (names ++ name ∷ [])
+codings_push c d names name h some more last = record {
+  some_is = some ∙ sym (lt-ltb 0 (length (names ++ name ∷ [])) (omega (arith, length-append names (name ∷ []))));
+  more_is = more ∙ h.some_is ∙ both_tests (length names) _ (omega (arith, length-append names (name ∷ [])));
+  last_is = last ∙ sym (ends_chunked-push names name);
+}
+
+-- the codings of a value were taken up to those that are left
+pub record HasTaken (first : Codings) (all left : List (List ℕ)) (now : Codings) : Type 0 where
+  pub taken : List (List ℕ)
+  pub split : all ≡ taken ++ left
+  pub codings : (names : List (List ℕ)) → CodingsAs first names → CodingsAs now (names ++ taken)
+
+-- the fields up to a place had the name so often, fewer than twice
+pub record HasFound (seen : Occurs) (values : List (List ℕ)) : Type 0 where
+  pub found : OccursAs seen values
+
+pub taken_begins : (first : Codings) (all left : List (List ℕ)) → left ≡ all → HasTaken first all left first
+taken_begins first all left is = record {
+  taken = [];
+  split = sym is;
+  codings = λ names h. subst (λ (w : List (List ℕ)). CodingsAs first w) (sym (append-nil names)) h;
+}
+
+pub taken_more : (first now later : Codings) (all left rest : List (List ℕ)) (name : List ℕ) → HasTaken first all left now → left ≡ name ∷ rest
+    → later.some ≡ true → later.more ≡ now.some → later.ends_chunked ≡ same_ignoring_case name (codes "chunked") → HasTaken first all rest later
+taken_more first now later all left rest name h is some more last = record {
+  taken = h.taken ++ name ∷ [];
+  split = h.split ∙ ap (λ w. h.taken ++ w) is ∙ sym (append_assoc h.taken (name ∷ []) rest);
+  codings = λ names before. subst (λ (w : List (List ℕ)). CodingsAs later w) (append_assoc names h.taken (name ∷ []))
+      (codings_push now later (names ++ h.taken) name (h.codings names before) some more last);
+}
+
+pub taken_whole : (first now : Codings) (all left : List (List ℕ)) → HasTaken first all left now → left ≡ []
+    → (names : List (List ℕ)) → CodingsAs first names → CodingsAs now (names ++ all)
+taken_whole first now all left h none names before =
+    let same : h.taken ≡ all = sym (h.split ∙ ap (λ w. h.taken ++ w) none ∙ append-nil h.taken) in
+    subst (λ (w : List (List ℕ)). CodingsAs now (names ++ w)) same (h.codings names before)
+
+-- the values of one name in fields that stand one behind the other
+pub values_of-append : (name : List ℕ) (a b : List (List ℕ × List ℕ)) → values_of name (a ++ b) ≡ values_of name a ++ values_of name b
+values_of-append name a b = ap (map (λ (f : List ℕ × List ℕ). f.1)) (filter-append (λ f. same_ignoring_case f.0 name) a b) ∙ map-append _ _ _
+
+-- the first one
+pub found_first : (values more : List (List ℕ)) (value : Bor (List ℕ)) → OccursAs Never values → more ≡ values ++ value.now ∷ [] → OccursAs (Once value) more
+found_first values more value none is = is ∙ ap (λ w. w ++ value.now ∷ []) none
+
+-- one that is not the first
+pub found_some : (seen : Occurs) (values : List (List ℕ)) → OccursAs seen values → seen ≢ Never → 0 < length values
+found_some Never values h other = absurd (other refl)
+found_some (Once value) values h other = omega (arith, ap length h)
+found_some Again values h other = omega (arith, h)
+
+-- the values of one name with the field at a place, which has the name
+pub values_here : (name : List ℕ) (fields : List (List ℕ × List ℕ)) (i : ℕ) (field value : List ℕ) → IsFieldAt fields i field value
+    → same_ignoring_case field name ≡ true → values_of name (take (i + 1) fields) ≡ values_of name (take i fields) ++ value ∷ []
+values_here name fields i field value at same =
+    ap (values_of name) (take_field fields i field value at) ∙ values_more name (take i fields) field value
+    ∙ ap (λ b. values_of name (take i fields) ++ (if b then value ∷ [] else [])) same
+
+-- and with one that has not
+pub values_elsewhere : (name : List ℕ) (fields : List (List ℕ × List ℕ)) (i : ℕ) (field : List ℕ) → slice_get (map (λ f. f.0) fields) i ≡ Some field
+    → same_ignoring_case field name ≡ false → values_of name (take (i + 1) fields) ≡ values_of name (take i fields)
+values_elsewhere name fields i field is other =
+    let at = field_at_name fields i field is in
+    ap (values_of name) (take_field fields i field at.0 at.1) ∙ values_more name (take i fields) field at.0
+    ∙ ap (λ b. values_of name (take i fields) ++ (if b then at.0 ∷ [] else [])) other ∙ append-nil _
+
+-- two at least
+pub found_again : (name : List ℕ) (fields : List (List ℕ × List ℕ)) (i : ℕ) (field : List ℕ) (seen : Occurs)
+    → slice_get (map (λ f. f.0) fields) i ≡ Some field → same_ignoring_case field name ≡ true
+    → OccursAs seen (values_of name (take i fields)) → seen ≢ Never → 1 < length (values_of name fields)
+found_again name fields i field seen is same h other =
+    let at = field_at_name fields i field is in
+    let some = found_some seen _ h other in
+    let front = values_here name fields i field at.0 at.1 same in
+    let whole : values_of name fields ≡ values_of name (take (i + 1) fields) ++ values_of name (drop (i + 1) fields) =
+    ap (values_of name) (sym (take-append-drop (i + 1) fields)) ∙ values_of-append name (take (i + 1) fields) (drop (i + 1) fields) in
+    omega (
+      arith,
+      some,
+      ap length front,
+      ap length whole,
+      length-append (values_of name (take i fields)) (at.0 ∷ []),
+      length-append (values_of name (take (i + 1) fields)) (values_of name (drop (i + 1) fields)),
+    )
+
+-- what was found of the codings of some values: none where there is no value
+abbrev pub CodingsFound : Option Codings → List (List ℕ) → Type 0
+CodingsFound None values = values ≡ []
+CodingsFound (Some c) values = (values ≢ []) × CodingsAs c (flat_map elements values)
+
+pub record HasCodings (all : Option Codings) (values : List (List ℕ)) : Type 0 where
+  pub found : CodingsFound all values
+
+no_codings : CodingsAs (record { some = false; more = false; ends_chunked = false }) []
+no_codings = record { some_is = refl; more_is = refl; last_is = refl }
+
+not_empty : (values : List (List ℕ)) (value : List ℕ) → values ++ value ∷ [] ≢ []
+not_empty [] value = λ e. (cc)
+not_empty (v ∷ values) value = λ e. (cc)
+
+-- one value more
+pub codings_more : (before : Option Codings) (start now : Codings) (values more : List (List ℕ)) (value : List ℕ) → CodingsFound before values
+    → start ≡ unwrap_or before (record { some = false; more = false; ends_chunked = false })
+    → more ≡ values ++ value ∷ []
+    → ((names : List (List ℕ)) → CodingsAs start names → CodingsAs now (names ++ elements value)) → CodingsFound (Some now) more
+codings_more None start now values more value h is longer step =
+    let begin : CodingsAs start [] = subst (λ (c : Codings). CodingsAs c []) (sym is) no_codings in
+    let all : more ≡ value ∷ [] = longer ∙ ap (λ w. w ++ value ∷ []) h in (
+      subst (λ (w : List (List ℕ)). w ≢ []) (sym longer) (not_empty values value),
+      subst (λ (w : List (List ℕ)). CodingsAs now (flat_map elements w)) (sym all) (subst (λ (w : List (List ℕ)). CodingsAs now w) (sym (append-nil (elements value))) (step [] begin)),
+    )
+codings_more (Some c) start now values more value h is longer step =
+    let begin : CodingsAs start (flat_map elements values) = subst (λ (d : Codings). CodingsAs d (flat_map elements values)) (sym is) h.1 in (
+      subst (λ (w : List (List ℕ)). w ≢ []) (sym longer) (not_empty values value),
+      subst (λ (w : List (List ℕ)). CodingsAs now w)
+          (ap (λ w. flat_map elements values ++ w) (sym (append-nil (elements value))) ∙ sym (flat_map-append elements values (value ∷ [])) ∙ ap (flat_map elements) (sym longer))
+          (step (flat_map elements values) begin),
+    )
+
+-- what was found, as the clause says it
+pub codings_tell : (all : Option Codings) (values : List (List ℕ)) → CodingsFound all values
+    → MatchOption all (values ≡ []) (λ c. (values ≢ []) × CodingsAs c (flat_map elements values))
+codings_tell None values h = h
+codings_tell (Some c) values h = h
+
+-- the refusal of the fields, by its parts
+pub fields_host : (version : Version) (fields : List (List ℕ × List ℕ)) → is_host_right version (values_of (codes "host") fields) ≡ false
+    → fields_fault version fields ≡ Some (F 6)
+unfolding fields_fault
+fields_host version fields wrong = rw wrong refl
+
+pub fields_plain : (version : Version) (fields : List (List ℕ × List ℕ)) → is_host_right version (values_of (codes "host") fields) ≡ true
+    → values_of (codes "transfer-encoding") fields ≡ []
+    → fields_fault version fields ≡ lengths_fault (values_of (codes "content-length") fields)
+unfolding fields_fault
+fields_plain version fields right none = rw (right, none) refl
+
+body_transfer : (version : Version) (values lengths : List (List ℕ)) → values ≢ []
+    → body_fault version values lengths ≡ transfer_fault version (flat_map elements values) lengths
+body_transfer version [] lengths some = absurd (some refl)
+body_transfer version (v ∷ values) lengths some = refl
+
+pub fields_transfer : (version : Version) (fields : List (List ℕ × List ℕ)) → is_host_right version (values_of (codes "host") fields) ≡ true
+    → values_of (codes "transfer-encoding") fields ≢ []
+    → fields_fault version fields
+    ≡ transfer_fault version (flat_map elements (values_of (codes "transfer-encoding") fields)) (values_of (codes "content-length") fields)
+unfolding fields_fault
+fields_transfer version fields right some = rw right (body_transfer version _ _ some)

@@ -1,0 +1,9 @@
+use Rattle.message_framing.specs.Target.{ends_authority}
+use Rattle.message_framing.proofs.HeadLemmas.{place_found, place_missing}
+use Rattle.message_framing.proofs.target.authority_len.Goals as goal
+
+pub returns-in-Some-clause-value : goal.returns-in-Some-clause-value
+returns-in-Some-clause-value c = place_found ends_authority _ _ c.in-Some.ensures.0 c.in-Some.ensures.1
+
+pub returns-in-None-clause-value : goal.returns-in-None-clause-value
+returns-in-None-clause-value c = place_missing ends_authority _ c.in-None.ensures

@@ -1,0 +1,18 @@
+-- What was found of the fields of one name, and of the transfer codings.
+use Rattle.std.specs.Prelude.{◌≡◌, ℕ, ◌<◌, nat_lt, List, [], ◌∷◌, length}
+use Rattle.message_framing.specs.declared.fields.Occurs.{Occurs}
+use Rattle.message_framing.specs.declared.fields.Occurs.TheVariants.{Never, Once, Again}
+use Rattle.message_framing.specs.declared.fields.Codings.{Codings}
+use Rattle.message_framing.specs.Framing.{ends_chunked}
+
+-- how many values there are, with the one that is alone
+abbrev pub OccursAs : Occurs → List (List ℕ) → Type 0
+OccursAs Never values = values ≡ []
+OccursAs (Once value) values = values ≡ value.now ∷ []
+OccursAs Again values = 1 < length values
+
+-- whether there are codings, and two, and whether the last one is `chunked`
+pub record CodingsAs (c : Codings) (names : List (List ℕ)) : Type 0 where
+  pub some_is : c.some ≡ nat_lt 0 (length names)
+  pub more_is : c.more ≡ nat_lt 1 (length names)
+  pub last_is : c.ends_chunked ≡ ends_chunked names

@@ -1,0 +1,37 @@
+// A whole request: whether the stack answers it, and its environment.
+ghost use Rattle.std.specs.Prelude.{◌≡◌, [], None, IfOk};
+ghost use Rattle.rack_types.specs.Rules.{broken_env_rule};
+ghost use Rattle.rack_env.specs.Environment.{env_pairs, with_body};
+ghost use Rattle.rack_types.specs.Sound.{IsSound};
+ghost use Rattle.puma_top.specs.Served.{is_served, once_peer, once_local};
+
+use rack_env::env_of;
+use rack_types::{Bytes, Env, Input, Local, NoMemory, Peer, Request, Version};
+use std::alloc::Global;
+
+/// Whether the stack answers the request. A HEAD, a request of HTTP/1.0 and one behind which the
+/// connection closes wait for replies of another form.
+pub(crate) fn is_served(request: &Request) -> bool
+    ensures { result ≡ is_served request.now }
+{
+    match request.version() {
+        Version::Http10 => false,
+        Version::Http11 => request.method() != b"HEAD".as_slice() && request.persists(),
+    }
+}
+
+/// The environment of a request without a body, on the connection that `once` serves.
+pub(crate) fn environment(alloc: Global, request: &Request) -> Result<Env, NoMemory>
+    ensures pairs { IfOk result (λ e. e.pairs ≡ env_pairs (with_body [] request.now) once_peer once_local) }
+    ensures rules { IsSound request.now → IfOk result (λ e. broken_env_rule e.pairs ≡ None) }
+{
+    let peer = Peer::new(b"127.0.0.1").unwrap();
+    let local = Local {
+        name: Peer::new(b"localhost").unwrap(),
+        port: 9292,
+        https: false,
+        hijack: true,
+    };
+    let input = Input::new(Bytes::new(Vec::new(alloc)));
+    env_of(alloc, request, input, &peer, &local)
+}

@@ -1,0 +1,4 @@
+pub mod Environment
+pub mod Fields
+pub mod Host
+pub mod Placing
