@@ -22,6 +22,7 @@ SECONDS = 60
 HELLO = b"run text 200 text/plain hello\n"
 GET = b"GET / HTTP/1.1\r\nHost: a\r\n\r\n"
 HEAD_LIMIT = 32768
+LINE_LIMIT = 64
 FILE_LIMIT = 65536
 READ_LIMIT = 16384
 
@@ -84,10 +85,10 @@ def head_end(text):
 
 
 def noise_wanted(text):
-    """The answer to bytes whose first line is no request line."""
+    """The answer to bytes whose first line is no request line, and no empty one."""
     end = head_end(text)
     if end is not None and end <= HEAD_LIMIT:
-        return refused("F3")
+        return refused("F2" if text[:end].count(b"\n") - 2 > LINE_LIMIT else "F3")
     return refused("F1") if len(text) > HEAD_LIMIT else NOTHING
 
 

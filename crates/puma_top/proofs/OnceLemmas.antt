@@ -1,7 +1,6 @@
 -- What stands in bytes that came in pieces.
-use Rattle.std.proofs.Common.{◌≡◌, ℕ, ◌+◌, ◌-◌, ◌<◌, ◌≤◌, ◌⊎◌, inl, inr, Bool, if◌then◌else◌, List, [], ◌∷◌, ◌++◌, length, take, drop, Option, None, Some, Result, Ok, Err, IfOk, IfSome, Fits, w64, refl, ap, sym, ◌∙◌, subst, arith, length-append, length-drop, length-take, min}
+use Rattle.std.proofs.Common.{◌≡◌, ℕ, ◌+◌, ◌-◌, ◌<◌, ◌≤◌, inr, Bool, if◌then◌else◌, List, [], ◌++◌, length, take, drop, Option, None, Some, Result, Ok, Err, IfOk, IfSome, Fits, w64, refl, ap, sym, ◌∙◌, subst, arith, length-append, length-drop, length-take, min}
 use Rattle.std.proofs.Math.Seq.{take-add}
-use Rattle.std.proofs.lemmas.Bool.{cases_lt}
 use Rattle.std.proofs.lemmas.List.{append_assoc, append-nil, take-append-drop, take-append-le, take-take}
 use Rattle.rack_types.specs.declared.fault.Fault.{Fault}
 use Rattle.rack_types.specs.declared.fault.Fault.TheVariants.{F}
@@ -18,8 +17,8 @@ use Rattle.message_framing.specs.HeadText.{head_len, skip, lines_end}
 use Rattle.message_framing.specs.Request.{head_limit, Refusal, IsRequest, Begins, Wanting}
 use Rattle.message_framing.specs.Intake.{FedAt, Fed, IsRight, taken, FeedsTo}
 use Rattle.puma_top.specs.Reply.{hello_reply, fault_reply}
-use Rattle.puma_top.specs.Served.{is_served, request_reply}
-use Rattle.puma_top.specs.Once.{First, refused, request, wanting, Stands, Arrives, Admits, WritesPart, TakesIn, Sends, Answered, AnsweredInPart, Ends}
+use Rattle.puma_top.specs.Served.{request_reply}
+use Rattle.puma_top.specs.Once.{First, refused, request, wanting, Stands, Arrives, Admits, TakesIn, Sends, Ends}
 use Rattle.puma_top.specs.declared.once.Came.{Came}
 use Rattle.puma_top.specs.declared.once.Came.TheVariants as came
 use Rattle.puma_top.specs.declared.status.Status.{Status}
@@ -175,6 +174,7 @@ admitted intake next count n m result old new input before after f admits =
   where
     begins : Begins (f.bytes ++ f.piece) (length (f.bytes ++ take m f.piece)) f.right.1.0
     begins = whole_begins f.bytes f.piece m f.right.1.0 f.right.1.1
+
     go : (a : Result Came Status) → Admits a f.right.1.0 → TakesIn a old new input before after
     go (Ok came.Served) h = record {
       bytes = f.bytes ++ f.piece;
@@ -219,14 +219,14 @@ pub record Replies (kind body bytes text : List ℕ) : Type 0 where
 pub replies_served : (kind body bytes text : List ℕ) → Stands came.Served bytes → text ≡ hello_reply kind body → Replies kind body bytes text
 replies_served kind body bytes text stands is = record {
   first = request stands.0 stands.1 stands.2
-    (is ∙ ap (λ (b : Bool). if b then hello_reply kind body else fault_reply (F 0)) (sym stands.3));
+      (is ∙ ap (λ (b : Bool). if b then hello_reply kind body else fault_reply (F 0)) (sym stands.3));
   some = λ none. (let clash : hello_reply kind body ≡ [] = sym is ∙ none in cc);
 }
 
 pub replies_unserved : (kind body bytes text : List ℕ) → Stands came.Unserved bytes → text ≡ fault_reply (F 0) → Replies kind body bytes text
 replies_unserved kind body bytes text stands is = record {
   first = request stands.0 stands.1 stands.2
-    (is ∙ ap (λ (b : Bool). if b then hello_reply kind body else fault_reply (F 0)) (sym stands.3));
+      (is ∙ ap (λ (b : Bool). if b then hello_reply kind body else fault_reply (F 0)) (sym stands.3));
   some = λ none. (let clash : fault_reply (F 0) ≡ [] = sym is ∙ none in cc);
 }
 

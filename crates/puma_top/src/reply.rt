@@ -15,7 +15,9 @@ pub(crate) fn hello_reply(alloc: Global, hello: Hello<'_>) -> Result<Vec<u8>, No
 {
     let Hello { kind, body } = hello;
     let length = format!(in alloc; "\r\ncontent-length: {}\r\n\r\n", body.len())?;
-    let room = HEAD_ROOM.saturating_add(kind.len()).saturating_add(body.len());
+    let room = HEAD_ROOM
+        .saturating_add(kind.len())
+        .saturating_add(body.len());
     let mut reply = Vec::with_capacity(alloc, room)?;
     reply.extend_from_slice(b"HTTP/1.1 200 OK\r\ncontent-type: ")?;
     reply.extend_from_slice(kind)?;

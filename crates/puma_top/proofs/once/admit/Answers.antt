@@ -1,4 +1,4 @@
-use Rattle.std.proofs.Common.{Bor, refl, ap, sym, ◌∙◌}
+use Rattle.std.proofs.Common.{Bor, ap, sym, ◌∙◌}
 use Rattle.rack_types.specs.Request.{Parts}
 use Rattle.message_framing.specs.Request.{IsRequest}
 use Rattle.puma_top.specs.Served.{is_served}

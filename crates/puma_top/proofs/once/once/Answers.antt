@@ -1,9 +1,8 @@
-use Rattle.std.proofs.Common.{◌≡◌, List, ℕ, Vec, Global, ap, sym, ◌∙◌, subst}
+use Rattle.std.proofs.Common.{◌≡◌, ℕ, Vec, Global, sym, ◌∙◌, subst}
 use Rattle.rack_types.specs.declared.fault.Fault.TheVariants.{F}
 use Rattle.puma_top.specs.Once.{Arrives}
 use Rattle.puma_top.specs.Reply.{hello_reply, fault_reply}
 use Rattle.puma_top.specs.declared.once.Came.{Came}
-use Rattle.puma_top.specs.declared.once.Came.TheVariants.{Served, Unserved, Refused}
 use Rattle.puma_top.proofs.OnceLemmas.{if_ok_at, replies_served, replies_unserved, replies_fault, sent}
 use Rattle.puma_top.proofs.once.once.Goals as goal
 use Rattle.puma_top.proofs.once.once.Goals.{in-Served, in-Unserved, in-Refused}

@@ -1,6 +1,6 @@
 use Rattle.std.proofs.Common.{[], refl, ◌∙◌}
 use Rattle.message_framing.specs.declared.intake.Feed.TheVariants.{More, Whole, Refused}
-use Rattle.puma_top.proofs.OnceLemmas.{Reading, wanting_nil, appends_none, le_refl, le_then, fits_small, falls, ended, piece_is, Feeds, feeds, feeds_more, feeds_within, feeds_held, admitted, feeds_refused}
+use Rattle.puma_top.proofs.OnceLemmas.{wanting_nil, appends_none, le_refl, le_then, fits_small, falls, ended, piece_is, Feeds, feeds, feeds_more, feeds_within, feeds_held, admitted, feeds_refused}
 use Rattle.puma_top.proofs.once.take_in.Goals as goal
 
 pub pieces-init : goal.pieces-init
