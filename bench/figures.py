@@ -67,7 +67,8 @@ def run(command, text, cut):
     child.stdout.close()
     if feeder:
         feeder.join()
-    if child.returncode != 0 or (text and not out.startswith(b"HTTP/1.1 200 OK\r\n")):
+    wanted = b"HTTP/1.1 501 " if text.startswith(b"HEAD") else b"HTTP/1.1 200 OK\r\n"
+    if child.returncode != 0 or (text and not out.startswith(wanted)):
         sys.exit(f"the program answered with status {child.returncode}: {out[:80]!r}")
     return seconds
 
@@ -80,12 +81,11 @@ def times(command, text, cut):
     return taken
 
 
-def instructions(text, cut, function=None):
-    """Those of the whole run, or of one function by its name and of all that it calls."""
+def instructions(text, cut):
+    """Those of the whole run."""
     with tempfile.TemporaryDirectory() as folder:
         counted = os.path.join(folder, "counted")
-        more = [f"--toggle-collect={function}"] if function else []
-        run(["valgrind", "--tool=callgrind", *more, f"--callgrind-out-file={counted}", PROGRAM, "once", STACK], text, cut)
+        run(["valgrind", "--tool=callgrind", f"--callgrind-out-file={counted}", PROGRAM, "once", STACK], text, cut)
         with open(counted) as file:
             return int(re.search(r"^(?:summary|totals):\s*(\d+)", file.read(), re.M).group(1))
 
@@ -117,10 +117,9 @@ def heads_with_fields():
     ]
 
 
-def functions_named(word):
-    """The program's functions whose symbols hold the word."""
-    listed = subprocess.run(["nm", "--defined-only", PROGRAM], capture_output=True, text=True, check=False)
-    return [line.split()[-1] for line in listed.stdout.splitlines() if word in line]
+def without_environment(text):
+    """The same head of a request for which no environment is made: a HEAD, which is answered F0."""
+    return b"HEAD" + text.removeprefix(b"GET")
 
 
 def main():
@@ -155,7 +154,6 @@ def main():
         grown = f"{counts[many] / counts[few]:.2f} times" if can_count else "not counted"
         print(f"| {way} | {grown} | {best[many] / best[few]:.2f} times |")
 
-    environment = functions_named("env_of")
     empty = instructions(b"", False) if can_count else 0
     print("\n| head | bytes | instructions of the run beyond one without input | of these the environment |")
     print("|---|--:|--:|--:|")
@@ -163,11 +161,12 @@ def main():
     for name, text in heads_with_fields():
         if not can_count:
             break
-        whole = instructions(text, False) - empty
-        made[name] = instructions(text, False, environment[0]) if environment else None
-        share = f"{made[name]:,}" if environment else "not found by name"
-        print(f"| {name} | {len(text):,} | {whole:,} | {share} |", flush=True)
-    if can_count and environment:
+        whole = instructions(text, False)
+        made[name] = whole - instructions(without_environment(text), False)
+        print(f"| {name} | {len(text):,} | {whole - empty:,} | {made[name]:,} |", flush=True)
+    if can_count:
+        print("\nThe environment is the difference to the same head as a HEAD, which is answered without one; it holds")
+        print("the difference of the two replies too, the same for each head.")
         print("\n| growth of the environment from 8 to 64 fields, at most 9 times is wanted | instructions |")
         print("|---|--:|")
         for names in ("names that differ", "one name"):

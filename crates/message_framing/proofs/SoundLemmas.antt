@@ -71,6 +71,7 @@ slash_absolute rest t is = go (nat_lt 0 (length authority) && is_valid_host auth
   where
     authority : List ℕ
     authority = before_first ends_authority rest
+
     go : (b : Bool) → (if b then Some (from_path (Some authority) (drop (length authority) rest)) else None) ≡ Some t → begins_with_slash t.path ≡ true
     go true found =
         let same : from_path (Some authority) (drop (length authority) rest) ≡ t = cc in
@@ -97,6 +98,7 @@ path_right method target t is = go (list_all is_target_byte target) (begins_with
   where
     by_slash : begins_with_slash t.path ≡ true → is_path_right t.path method ≡ true
     by_slash slash = rw slash refl
+
     go : (clean slash scheme star options : Bool) → list_all is_target_byte target ≡ clean → begins_with_slash target ≡ slash
         → nat_lt 0 (scheme_len target) ≡ scheme → bytes_eq target (codes "*") ≡ star → bytes_eq method (codes "OPTIONS") ≡ options
         → is_path_right t.path method ≡ true

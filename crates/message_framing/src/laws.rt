@@ -38,8 +38,7 @@ pub fn one_answer_is_right(bytes: &[u8], piece: &[u8])
 /// Each request has what the rules of an environment rest on.
 pub fn request_is_sound(bytes: &[u8])
     ensures { (r : Parts) → IsRequest bytes.now r → IsSound r }
-{
-}
+{}
 
 /// What stands in these bytes: one of the three always does. It takes the memory of an intake.
 pub fn what_stands(alloc: Global, bytes: &[u8]) -> Result<Feed, NoMemory>

@@ -9,4 +9,6 @@ mod scan;
 mod target;
 
 pub use intake::{Feed, Intake};
-pub use laws::{one_answer_is_right, one_thing_stands, request_is_sound, what_stands, what_stands_stays};
+pub use laws::{
+    one_answer_is_right, one_thing_stands, request_is_sound, what_stands, what_stands_stays,
+};
