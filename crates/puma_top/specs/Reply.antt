@@ -8,7 +8,7 @@ use Rattle.rack_types.specs.declared.fault.Fault.TheVariants.{F, T1}
 abbrev pub crlf : List ℕ
 crlf = 13 ∷ 10 ∷ []
 
--- the reason behind a status
+-- the reason behind a status, of those that are written today
 abbrev pub reason : ℕ → List ℕ
 reason status =
     if status == 200 then codes "OK"

@@ -50,7 +50,10 @@ pub fn run_quiet<F: Files, S: Source, K: Sink>(
     ensures bad_stack { (name text : List ℕ) (before : Reads) → F.texts files.old ≡ Some before
         → F.texts files.new ≡ Some (before ++ ((name, FileRead.Text text) ∷ [])) → IsNoHello text
         → UnlessNoMemory result (result ≡ Status.Stack 1 0) }
-    ensures source_fault { result ≡ Status.SourceFault → Rose (S.faults src.old) (S.faults src.new) }
+    ensures source_fault { result ≡ Status.SourceFault
+        → ((kind body : List ℕ) × IsStack (once_file words.now) kind body
+        (F.holds files.old) (F.holds files.new) (F.texts files.old) (F.texts files.new))
+        × Rose (S.faults src.old) (S.faults src.new) }
     ensures sink_fault { result ≡ Status.SinkFault → Rose (K.faults out.old) (K.faults out.new) }
     ensures unasked { OnUsage result (files.new ≡ files.old) }
     ensures unread { OnUnread result ((src.new ≡ src.old) × (out.new ≡ out.old)) }

@@ -39,7 +39,7 @@ fields_content (Some v) None rest = refl
 fields_content (Some v) (Some w) rest = refl
 
 -- no HTTP_ name is there before the fields are put
-no_fields_before : (r : Parts) (peer : List ℕ) (local : Local) → HasNoFields (fixed_pairs r peer local ++ content_pairs r)
+pub no_fields_before : (r : Parts) (peer : List ℕ) (local : Local) → HasNoFields (fixed_pairs r peer local ++ content_pairs r)
 no_fields_before r peer local = record {
   none = λ rest. get_pair-append (codes "HTTP_" ++ rest) (fixed_pairs r peer local) (content_pairs r) (fields_fixed r peer local rest)
       ∙ fields_content (joined (values_of (codes "content-type") r.fields)) (content_length r) rest;

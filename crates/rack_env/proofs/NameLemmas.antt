@@ -11,13 +11,13 @@ use Rattle.rack_types.proofs.PairLaws.{get_pair-set_pair-other}
 use Rattle.rack_env.specs.Fields.{field_pairs, http_name, is_left_out, is_underscore, join_pair, name_byte, put_field, with_authority, with_more}
 
 -- a byte of an environment's name, as it is in a field's name in lower case
-abbrev back : ℕ → ℕ
+abbrev pub back : ℕ → ℕ
 back b = cond (b == 95) 45 (to_ascii_lowercase b)
 
 back_byte : (b : ℕ) → is_underscore b ≡ false → back (name_byte b) ≡ to_ascii_lowercase b
 back_byte b other = grind (arith, nat_tests)
 
-back_name : (name : List ℕ) → list_any is_underscore name ≡ false → map back (map name_byte name) ≡ lowered name
+pub back_name : (name : List ℕ) → list_any is_underscore name ≡ false → map back (map name_byte name) ≡ lowered name
 back_name [] none = refl
 back_name (b ∷ name) none =
     let parts = or_parts (is_underscore b) (list_any is_underscore name) none in
@@ -35,7 +35,7 @@ name_back name word env none is tells =
 pub record IsNoField (k : List ℕ) : Type 0 where
   pub other : (name : List ℕ) → is_left_out name ≡ false → bytes_eq k (http_name name) ≡ false
 
-join_other : (k name value : List ℕ) (ps : Pairs) → bytes_eq k name ≡ false → get_pair k (join_pair name value ps) ≡ get_pair k ps
+pub join_other : (k name value : List ℕ) (ps : Pairs) → bytes_eq k name ≡ false → get_pair k (join_pair name value ps) ≡ get_pair k ps
 join_other k name value [] other = ap (λ b. cond b (Some value) None) other
 join_other k name value (p ∷ ps) other =
     by (bytes_eq name p.0) refl (join_other k name value ps other)

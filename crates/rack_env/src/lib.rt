@@ -11,7 +11,9 @@ mod content;
 mod fields;
 mod fixed;
 mod host;
+mod laws;
 
+pub use laws::fields_are_found;
 use rack_types::{Env, Input, Local, NoMemory, Peer, Request};
 use std::alloc::Global;
 
