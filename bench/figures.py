@@ -1,5 +1,5 @@
-"""Instructions and time of `puma once`, for short and long heads, whole and byte by byte, and for
-heads with few and with many fields, with and without the environment.
+"""Instructions and time of `puma once`, for short and long heads, whole and byte by byte, for heads with
+few and with many fields, with and without the environment, and for bodies by length and in chunks.
 
 Instructions are counted by callgrind and are repeatable: over the whole run of the program from its
 start, or of one function with all that it calls. Times are those of this machine, from starting the
@@ -22,10 +22,14 @@ TOP = os.path.dirname(os.path.dirname(os.path.abspath(__file__)))
 PUMA = os.path.join(TOP, "bin", "puma")
 PROGRAM = os.path.join(TOP, "crates", "puma_cli", "out", "puma_cli")
 STACK = os.path.join(TOP, "examples", "hello.stack")
+ECHO = os.path.join(TOP, "examples", "echo.stack")
 
 GET = b"GET / HTTP/1.1\r\nHost: a\r\n\r\n"
 KIB = 1024
-WAYS = (("whole, from a file", False), ("byte by byte", True))
+# How a text comes: the bytes of each piece, or none where it comes from a file.
+WHOLE = "whole, from a file"
+WAYS = ((WHOLE, None), ("byte by byte", 1))
+PIECES = {WHOLE: None, "in pieces of 16,384 bytes": 16384, "in pieces of 7 bytes": 7, "byte by byte": 1}
 RUNS = 40
 SECONDS = 5
 
@@ -35,10 +39,10 @@ def long_head(size):
     return GET.replace(b"/", b"/" + b"a" * (size - len(GET)), 1)
 
 
-def feed(end, text):
+def feed(end, text, size):
     try:
-        for at in range(len(text)):
-            end.send(text[at:at + 1])
+        for at in range(0, len(text), size):
+            end.send(text[at:at + size])
     except OSError:
         pass  # the program has read enough
     finally:
@@ -50,7 +54,7 @@ def run(command, text, cut):
     if cut:
         # Each send to such a socket is one read of the program.
         far, near = socket.socketpair(socket.AF_UNIX, socket.SOCK_SEQPACKET)
-        feeder = threading.Thread(target=feed, args=(far, text))
+        feeder = threading.Thread(target=feed, args=(far, text, cut))
     else:
         near = tempfile.TemporaryFile()
         near.write(text)
@@ -81,11 +85,11 @@ def times(command, text, cut):
     return taken
 
 
-def instructions(text, cut):
+def instructions(text, cut, stack=STACK):
     """Those of the whole run."""
     with tempfile.TemporaryDirectory() as folder:
         counted = os.path.join(folder, "counted")
-        run(["valgrind", "--tool=callgrind", f"--callgrind-out-file={counted}", PROGRAM, "once", STACK], text, cut)
+        run(["valgrind", "--tool=callgrind", f"--callgrind-out-file={counted}", PROGRAM, "once", stack], text, cut)
         with open(counted) as file:
             return int(re.search(r"^(?:summary|totals):\s*(\d+)", file.read(), re.M).group(1))
 
@@ -115,6 +119,49 @@ def heads_with_fields():
         ("8 fields, one name", request([b"X-Field-00: value"] * 7)),
         ("64 fields, one name", request([b"X-Field-00: value"] * 63)),
     ]
+
+
+def by_length(size):
+    return request([b"Content-Length: %d" % size]).replace(b"GET", b"POST", 1) + b"a" * size
+
+
+def in_chunks(size, chunk):
+    parts = b"".join(b"%x\r\n%s\r\n" % (n, b"a" * n) for n in [chunk] * (size // chunk))
+    return request([b"Transfer-Encoding: chunked"]).replace(b"GET", b"POST", 1) + parts + b"0\r\n\r\n"
+
+
+def body_figures():
+    """Instructions a byte of a body, beyond a run with the same head and no body."""
+    print("\n| body | comes | instructions | a byte of the body |")
+    print("|---|---|--:|--:|")
+    mib = KIB * KIB
+    counts = {}
+
+    def count(name, text, way, size, stack=STACK):
+        none = by_length(0) if b"Content-Length" in text[:200] else in_chunks(0, 1)
+        found = instructions(text, PIECES[way], stack)
+        counts[name, way] = found - instructions(none, None, stack)
+        print(f"| {name} | {way} | {found:,} | {counts[name, way] / size:.2f} |", flush=True)
+
+    for name, text in [("1 MiB by length", by_length(mib)), ("1 MiB in chunks of 16 KiB", in_chunks(mib, 16 * KIB)),
+                       ("1 MiB in chunks of 1 KiB", in_chunks(mib, KIB))]:
+        for way in (WHOLE, "in pieces of 16,384 bytes"):
+            count(name, text, way, mib)
+    count("1 MiB by length, echoed", by_length(mib), WHOLE, mib, ECHO)
+    grown = []
+    for kind, made, ways in [
+        ("by length", by_length, ("byte by byte", "in pieces of 7 bytes")),
+        ("in chunks of 1 KiB", lambda size: in_chunks(size, KIB), ("byte by byte", "in pieces of 7 bytes")),
+        ("in chunks of 1 byte", lambda size: in_chunks(size, 1), (WHOLE, "in pieces of 16,384 bytes")),
+    ]:
+        for way in ways:
+            for size in (64, 256):
+                count(f"{size} KiB {kind}", made(size * KIB), way, size * KIB)
+            grown.append((kind, way, counts[f"256 KiB {kind}", way] / counts[f"64 KiB {kind}", way]))
+    print("\n| growth from 64 KiB to 256 KiB, at most 4.40 is wanted | comes | instructions |")
+    print("|---|---|--:|")
+    for kind, way, times_as_many in grown:
+        print(f"| {kind} | {way} | {times_as_many:.2f} times |")
 
 
 def without_environment(text):
@@ -154,15 +201,15 @@ def main():
         grown = f"{counts[many] / counts[few]:.2f} times" if can_count else "not counted"
         print(f"| {way} | {grown} | {best[many] / best[few]:.2f} times |")
 
-    empty = instructions(b"", False) if can_count else 0
+    empty = instructions(b"", None) if can_count else 0
     print("\n| head | bytes | instructions of the run beyond one without input | of these the environment |")
     print("|---|--:|--:|--:|")
     made = {}
     for name, text in heads_with_fields():
         if not can_count:
             break
-        whole = instructions(text, False)
-        made[name] = whole - instructions(without_environment(text), False)
+        whole = instructions(text, None)
+        made[name] = whole - instructions(without_environment(text), None)
         print(f"| {name} | {len(text):,} | {whole - empty:,} | {made[name]:,} |", flush=True)
     if can_count:
         print("\nThe environment is the difference to the same head as a HEAD, which is answered without one; it holds")
@@ -172,10 +219,12 @@ def main():
         for names in ("names that differ", "one name"):
             print(f"| {names} | {made['64 fields, ' + names] / made['8 fields, ' + names]:.2f} times |")
 
+        body_figures()
+
     print("\n| starting and answering the short request, less than 10 ms is wanted | best time, ms | middle time, ms |")
     print("|---|--:|--:|")
     for name, command in (("the program", PROGRAM), ("through `bin/puma`", PUMA)):
-        taken = times([command, "once", STACK], GET, False)
+        taken = times([command, "once", STACK], GET, None)
         print(f"| {name} | {min(taken):.2f} | {statistics.median(taken):.2f} |")
 
 

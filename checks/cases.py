@@ -7,6 +7,7 @@ never taken from the program. A case that can't be tried on this machine is pass
 import errno
 import os
 import random
+import re
 import shutil
 import socket
 import subprocess
@@ -20,11 +21,15 @@ PROGRAM = os.path.join(TOP, "crates", "puma_cli", "out", "puma_cli")
 SECONDS = 60
 
 HELLO = b"run text 200 text/plain hello\n"
+ECHO = b"run echo\n"
 GET = b"GET / HTTP/1.1\r\nHost: a\r\n\r\n"
 HEAD_LIMIT = 32768
 LINE_LIMIT = 64
 FILE_LIMIT = 65536
 READ_LIMIT = 16384
+BODY_LIMIT = 1048576
+SIZE_LINE_LIMIT = 1024
+TRAILER_LIMIT = 8192
 
 
 # What is wanted
@@ -49,6 +54,10 @@ def refusal(fault):
         "F10": b"501 Not Implemented",
         "F11": b"400 Bad Request",
         "F12": b"413 Content Too Large",
+        "F13": b"400 Bad Request",
+        "F14": b"413 Content Too Large",
+        "F15": b"400 Bad Request",
+        "F16": b"431 Request Header Fields Too Large",
     }[fault]
     head = b"HTTP/1.1 %s\r\nx-puma-fault: %s\r\ncontent-length: 0\r\nconnection: close\r\n\r\n"
     return head % (line, fault.encode())
@@ -90,6 +99,41 @@ def noise_wanted(text):
     if end is not None and end <= HEAD_LIMIT:
         return refused("F2" if text[:end].count(b"\n") - 2 > LINE_LIMIT else "F3")
     return refused("F1") if len(text) > HEAD_LIMIT else NOTHING
+
+
+def chunks_wanted(text):
+    """The answer of `run echo` to these bytes behind a head that announces chunks."""
+    data, at = b"", 0
+    while True:
+        end = text.find(b"\n", at, at + SIZE_LINE_LIMIT)
+        if end < 0:
+            return refused("F15") if len(text) - at >= SIZE_LINE_LIMIT else NOTHING
+        line = re.fullmatch(rb"([0-9A-Fa-f]{1,16})[ \t]*(?:;[^\r\n]*)?\r\n", text[at:end + 1])
+        if line is None:
+            return refused("F13")
+        at, size = end + 1, int(line[1], 16)
+        if len(data) + size > BODY_LIMIT:
+            return refused("F14")
+        if size == 0:
+            break
+        data += text[at:at + size]
+        at += size
+        behind = text[at:at + 2]
+        if behind != b"\r\n"[:len(behind)]:
+            return refused("F13")
+        if len(behind) < 2:
+            return NOTHING
+        at += 2
+    trailer = text[at:]
+    found = re.match(rb"\r?\n|.*?\n\r?\n", trailer[:TRAILER_LIMIT], re.S)
+    if found is None:
+        return refused("F16") if len(trailer) > TRAILER_LIMIT else NOTHING
+    if found[0].count(b"\n") - 1 > LINE_LIMIT:
+        return refused("F16")
+    field = rb"[!#$%&'*+\-.^_`|~0-9A-Za-z]+:[\t\x20-\x7e\x80-\xff]*\r?\n"
+    if re.fullmatch(rb"(?:" + field + rb")*\r?\n", found[0]) is None:
+        return refused("F13")
+    return (0, reply(data), b"")
 
 
 # Running the program
@@ -278,8 +322,18 @@ def check_stacks(checks):
         ("a line in front that is empty", b"\n" + HELLO),
         ("another status", b"run text 201 text/plain hello\n"),
         ("a status with a zero in front", b"run text 0200 text/plain hello\n"),
-        ("another endpoint", b"run echo\n"),
+        ("another endpoint", b"run env\n"),
         ("another endpoint of that form", b"run texts 200 text/plain hello\n"),
+        ("an endpoint that only begins like echo", b"run echoes\n"),
+        ("echo in capitals", b"run Echo\n"),
+        ("echo with an argument", b"run echo x\n"),
+        ("echo with a space behind", b"run echo \n"),
+        ("echo with a space in front", b" run echo\n"),
+        ("echo behind two spaces", b"run  echo\n"),
+        ("echo with a CR", b"run echo\r\n"),
+        ("echo and an empty line", b"run echo\n\n"),
+        ("echo twice", ECHO + ECHO),
+        ("run alone", b"run\n"),
         ("another first word", b"use text 200 text/plain hello\n"),
         ("a first word in capitals", b"RUN text 200 text/plain hello\n"),
         ("no body", b"run text 200 text/plain\n"),
@@ -293,8 +347,10 @@ def check_stacks(checks):
         ("the byte 31", b"run text 200 text/plain hello\x1f\n"),
     ]:
         checks.wants(name, NO_STACK, "once", write("stack", text), stdin=GET)
-    write("stack", b"run echo\n")
+    write("stack", b"run echoes\n")
     checks.wants("a bad stack before a failed read", NO_STACK, "once", "stack", stdin="/")
+    write("stack", ECHO[:-1])
+    checks.wants("echo without a line end", (0, reply(b""), b""), "once", "stack", stdin=GET)
     write("stack", HELLO[:-1])
     checks.wants("no line end", ANSWERED, "once", "stack", stdin=GET)
     write("stack", b"run text 200 ! ~\n")
@@ -429,8 +485,8 @@ def check_heads(checks):
         ("an empty coding field", "F9", b"POST / HTTP/1.1", [coding]),
         ("gzip and then chunked in fields of their own", "F10", b"POST / HTTP/1.1", [coding + b"gzip", coding + b"chunked"]),
         ("chunked and then gzip in fields of their own", "F9", b"POST / HTTP/1.1", [coding + b"chunked", coding + b"gzip"]),
-        ("chunks, which are not built", "F0", b"POST / HTTP/1.1", [coding + b"chunked"]),
-        ("chunks in capitals, with white space and empty elements", "F0", b"POST / HTTP/1.1", [coding + b", \tCHUNKED ,,"]),
+        ("chunks that are to come", "", b"POST / HTTP/1.1", [coding + b"chunked"]),
+        ("chunks in capitals, with white space and empty elements", "", b"POST / HTTP/1.1", [coding + b", \tCHUNKED ,,"]),
         ("chunks in HTTP/1.0", "F7", b"POST / HTTP/1.0", [coding + b"chunked"]),
         ("codings in HTTP/1.0 with a length", "F7", b"POST / HTTP/1.0", [coding + b"gzip", length + b"1"]),
         ("a space in front of the colon of a coding", "F3", b"POST / HTTP/1.1", [b"Transfer-Encoding : chunked"]),
@@ -442,9 +498,9 @@ def check_heads(checks):
         ("a length in hexadecimal", "F11", b"POST / HTTP/1.1", [length + b"0x5"]),
         ("a length of 0", None, b"POST / HTTP/1.1", [length + b"0"]),
         ("forty zeros", None, b"POST / HTTP/1.1", [length + b"0" * 40]),
-        ("forty digits that are zeros but the last", "F0", b"POST / HTTP/1.1", [length + b"0" * 39 + b"7"]),
+        ("forty digits that are zeros but the last", "", b"POST / HTTP/1.1", [length + b"0" * 39 + b"7"]),
         ("forty nines", "F12", b"POST / HTTP/1.1", [length + b"9" * 40]),
-        ("the largest body", "F0", b"POST / HTTP/1.1", [length + b"1048576"]),
+        ("the largest body that is to come", "", b"POST / HTTP/1.1", [length + b"1048576"]),
         ("one byte more", "F12", b"POST / HTTP/1.1", [length + b"1048577"]),
         ("a second host", "F6", b"POST / HTTP/1.1", [b"Host: a"]),
         ("a second host in front of a bad length", "F6", b"POST / HTTP/1.1", [b"hOST: b", length + b"x"]),
@@ -470,7 +526,8 @@ def check_heads(checks):
         ("HTTP/1.0 that is kept alive", "F0", b"GET / HTTP/1.0", [b"Connection: keep-alive"]),
     ]:
         text = b"\r\n".join([line, b"Host: a", *fields, b"", b""])
-        checks.wants(name, ANSWERED if want is None else refused(want), "once", "hello.stack", stdin=text)
+        wanted = ANSWERED if want is None else refused(want) if want else NOTHING
+        checks.wants(name, wanted, "once", "hello.stack", stdin=text)
     get = b"GET / HTTP/1.1\r\n"
     for name, want, host in [
         ("the address in brackets", None, b"[::1]:80"), ("brackets without an end", "F6", b"[::1"),
@@ -485,6 +542,146 @@ def check_heads(checks):
     room = HEAD_LIMIT - len(GET) - len(skipped)
     checks.wants("empty lines that fill the limit of a head", ANSWERED, "once", "hello.stack", stdin=skipped + b"\n" * room + GET)
     checks.wants("one empty line more", refused("F1"), "once", "hello.stack", stdin=skipped + b"\n" * (room + 1) + GET)
+
+
+def post(fields, body=b"", version=b"HTTP/1.1"):
+    return b"\r\n".join([b"POST / " + version, b"Host: a", *fields, b"", b""]) + body
+
+
+CODED = [b"Transfer-Encoding: chunked"]
+
+
+def check_bodies(checks):
+    """The table of hostile bodies, each whole and in single bytes."""
+    checks.begin("bodies")
+    length = b"Content-Length: "
+    row = post(CODED, b"5;x=1\r\nhello\r\n0\r\nT: 1\r\n\r\n")
+    trailer = b"0\r\nT: " + b"a" * (TRAILER_LIMIT - 7) + b"\r\n\r\n"
+    many, few = b"X: 1\r\n" * (LINE_LIMIT + 1), b"X: 1\r\n" * LINE_LIMIT
+    long_line = b"5;" + b"x" * (SIZE_LINE_LIMIT - 4) + b"\r\nhello\r\n0\r\n\r\n"
+    hello, none = (0, reply(b"hello"), b""), (0, reply(b""), b"")
+    rows = [
+        ("a length twice", refused("F11"), post([length + b"5"] * 2, b"hello")),
+        ("a length with a sign", refused("F11"), post([length + b"+5"], b"hello")),
+        ("a list of lengths", refused("F11"), post([length + b"5, 5"], b"hello")),
+        ("a length of nothing", refused("F11"), post([length])),
+        ("xchunked", refused("F9"), post([b"Transfer-Encoding: xchunked"])),
+        ("no coding but a comma", refused("F9"), post([b"Transfer-Encoding: ,"])),
+        ("chunked twice in a list", refused("F10"), post([b"Transfer-Encoding: chunked, chunked"])),
+        ("chunked in two fields", refused("F10"), post(CODED * 2)),
+        ("chunks in HTTP/1.0", refused("F7"), post(CODED, version=b"HTTP/1.0")),
+        ("a space in front of the colon", refused("F3"), post([b"Transfer-Encoding : chunked"])),
+        ("a field line that begins with a space", refused("F3"), post([b" Transfer-Encoding: chunked"])),
+        ("data that no line end follows", refused("F13"), post(CODED, b"5\r\nhelloX")),
+        ("data that a CR and no LF follow", refused("F13"), post(CODED, b"5\r\nhello\rX")),
+        ("data that an LF alone follows", refused("F13"), post(CODED, b"5\r\nhello\n")),
+        ("a size with a sign", refused("F13"), post(CODED, b"-1\r\n")),
+        ("a size of twenty digits", refused("F13"), post(CODED, b"F" * 20 + b"\r\n")),
+        ("the largest size of sixteen digits", refused("F14"), post(CODED, b"F" * 16 + b"\r\n")),
+        ("no size", refused("F13"), post(CODED, b"\r\n")),
+        ("a size line that ends in LF alone", refused("F13"), post(CODED, b"5\nhello\r\n0\r\n\r\n")),
+        ("a size with a space in front", refused("F13"), post(CODED, b" 5\r\nhello")),
+        ("a size with spaces behind", hello, post(CODED, b"5 \t\r\nhello\r\n0\r\n\r\n")),
+        ("a size in hexadecimal with 0x", refused("F13"), post(CODED, b"0x5\r\nhello")),
+        ("a CR in an extension", refused("F13"), post(CODED, b"5;\rx\r\nhello")),
+        ("the refusal of a size line waits for its LF", NOTHING, post(CODED, b"-1\r")),
+        ("a size past the limit", refused("F14"), post(CODED, b"100001\r\n")),
+        ("sizes that pass the limit together", refused("F14"), post(CODED, b"5\r\nhello\r\nFFFFC\r\n")),
+        ("the longest size line", hello, post(CODED, long_line)),
+        ("one byte longer", refused("F15"), post(CODED, long_line.replace(b";", b";x", 1))),
+        ("a size line that is too long goes before its form", refused("F15"), post(CODED, b"-" * SIZE_LINE_LIMIT)),
+        ("one byte less is no refusal yet", NOTHING, post(CODED, b"-" * (SIZE_LINE_LIMIT - 1))),
+        ("64 field lines", none, post([b"X: 1"] * 63)),
+        ("65 field lines", refused("F2"), post([b"X: 1"] * 64)),
+        ("the longest trailer", none, post(CODED, trailer)),
+        ("a trailer of one byte more", refused("F16"), post(CODED, trailer.replace(b"T: ", b"T: a"))),
+        ("a trailer without an end", refused("F16"), post(CODED, b"0\r\n" + b"a" * (TRAILER_LIMIT + 1))),
+        ("as much of a trailer as is held", NOTHING, post(CODED, b"0\r\n" + b"a" * TRAILER_LIMIT)),
+        ("a trailer of 64 lines", none, post(CODED, b"0\r\n" + few + b"\r\n")),
+        ("a trailer of 65 lines", refused("F16"), post(CODED, b"0\r\n" + many + b"\r\n")),
+        ("65 lines that are no fields", refused("F16"), post(CODED, b"0\r\n" + b"x\n" * 65 + b"\n")),
+        ("a trailer that is no field", refused("F13"), post(CODED, b"0\r\nx\r\n\r\n")),
+        ("the refusal of a trailer waits for its blank line", NOTHING, post(CODED, b"0\r\nx\r\n")),
+        ("a trailer that looks like a request", refused("F13"), post(CODED, b"0\r\n" + GET)),
+        ("a trailer whose lines end in LF alone", none, post(CODED, b"0\r\nT: 1\n\n")),
+        ("a last chunk with many zeros and an extension", hello, post(CODED, b"0005\r\nhello\r\n000;a=b\r\n\r\n")),
+        ("a second request behind the chunks", hello, row + GET),
+        ("a body by length", hello, post([length + b"0005"], b"hello")),
+        ("a request behind a body", hello, post([length + b"5"], b"hello" + GET)),
+        ("a body that looks like a request", (0, reply(GET), b""), post([length + b"%d" % len(GET)], GET)),
+        ("a body of bytes of all values", (0, reply(bytes(range(256))), b""), post([length + b"256"], bytes(range(256)))),
+        ("a body that isn't whole", NOTHING, post([length + b"6"], b"hello")),
+        ("HEAD with a body that isn't whole", NOTHING, post([length + b"6"], b"hello").replace(b"POST", b"HEAD")),
+        ("HEAD with a body", refused("F0"), post([length + b"5"], b"hello").replace(b"POST", b"HEAD")),
+        ("an extension and a trailer, which are dropped", hello, row),
+    ]
+    for name, want, text in rows:
+        checks.wants(name, want, "once", "echo.stack", stdin=text)
+    for name, want, text in rows if hasattr(socket, "SOCK_SEQPACKET") else []:
+        checks.wants(name + ", in single bytes", want, "once", "echo.stack", stdin=Cut.every(text, 1))
+    at = row.index(b"5;x=1\r\n") + 6
+    checks.wants("cut between CR and LF of the first size line", hello, "once", "echo.stack", stdin=Cut([row[:at], row[at:]]))
+    for size in range(1, len(row)):
+        checks.wants(f"chunks that end behind {size} bytes", NOTHING, "once", "echo.stack", stdin=row[:size])
+    # A text stack answers a body as any request.
+    checks.wants("a body to a text", ANSWERED, "once", "hello.stack", stdin=row)
+    checks.wants("half a body to a text", NOTHING, "once", "hello.stack", stdin=post([length + b"5"], b"hell"))
+
+
+def check_large_bodies(checks):
+    checks.begin("large bodies")
+    largest = b"a" * BODY_LIMIT
+    whole = (0, reply(largest), b"")
+    length = b"Content-Length: %d"
+    by_length = post([length % BODY_LIMIT], largest)
+    checks.wants("the largest body", whole, "once", "echo.stack", stdin=by_length)
+    checks.wants("one byte less than the largest", NOTHING, "once", "echo.stack", stdin=by_length[:-1])
+    checks.wants("one byte more", refused("F12"), "once", "echo.stack", stdin=post([length % (BODY_LIMIT + 1)]))
+
+    def chunked(size, data):
+        parts = [data[at:at + size] for at in range(0, len(data), size)]
+        return post(CODED, b"".join(b"%x\r\n%s\r\n" % (len(part), part) for part in parts) + b"0\r\n\r\n")
+
+    for name, text in [("in one chunk", chunked(BODY_LIMIT, largest)), ("in chunks of 16 KiB", chunked(16384, largest)),
+                       ("in chunks of 1,000 bytes", chunked(1000, largest))]:
+        checks.wants("the largest body " + name, whole, "once", "echo.stack", stdin=text)
+        if hasattr(socket, "SOCK_SEQPACKET"):
+            checks.wants(f"the same {name}, in pieces", whole, "once", "echo.stack", stdin=Cut.every(text, READ_LIMIT))
+    checks.wants("a sum of chunks past the limit", refused("F14"), "once", "echo.stack",
+                 stdin=chunked(16384, largest + b"a"))
+    small = b"ab" * 5000
+    checks.wants("chunks of one byte", (0, reply(small), b""), "once", "echo.stack", stdin=chunked(1, small))
+
+
+def check_random_chunks(checks):
+    """Chunks made by dice, good ones and broken ones, against the rules written down above."""
+    checks.begin("random chunks")
+    dice = random.Random(977)
+    kinds = {"answered": 0, "refused": 0, "waiting": 0}
+
+    def some(parts):
+        return dice.choice(parts)
+
+    def chunk():
+        data = dice.randbytes(some([1, 2, 9, 15, 16, 17, 40]))
+        size = some([b"%x", b"%X", b"0%x", b"%016x"]) % len(data)
+        return size + some([b"", b"", b" ", b"\t ", b";", b";a=b", b" ;\"x\""]) + b"\r\n" + data + b"\r\n"
+
+    for turn in range(400):
+        text = b"".join(chunk() for _ in range(some([0, 1, 1, 2, 5])))
+        text += some([b"0", b"00", b"0;x", b"0 "]) + b"\r\n" + some([b"", b"T: 1\r\n", b"A:\nB: c\r\n"]) + some([b"\r\n", b"\n"])
+        for _ in range(some([0, 0, 1, 1, 2])):
+            at = dice.randrange(len(text))
+            broken = some([b"", b"\r", b"\n", b"0", b"F", b" ", b";", b":", dice.randbytes(1), b"\r\n"])
+            text = text[:at] + broken + text[at + some([0, 1, 1, 2]):]
+        if dice.random() < 0.2:
+            text = text[:dice.randrange(len(text) + 1)]
+        want = chunks_wanted(text)
+        kinds["waiting" if want == NOTHING else "refused" if b"x-puma-fault" in want[1] else "answered"] += 1
+        pieces = post(CODED, text)
+        cut = Cut.every(pieces, some([1, 2, 3, 7, 50])) if turn % 2 and hasattr(socket, "SOCK_SEQPACKET") else pieces
+        checks.wants(f"number {turn}: {text!r}", want, "once", "echo.stack", stdin=cut)
+    checks.counts("each kind of answer came", True, min(kinds.values()) > 20)
 
 
 def check_cuts(checks):
@@ -598,8 +795,9 @@ def main():
     os.chdir(folder)
     try:
         write("hello.stack", HELLO)
-        for group in (check_shell, check_words, check_files, check_stacks, check_requests, check_heads, check_cuts,
-                      check_hostile, check_outside, check_interruptions):
+        write("echo.stack", ECHO)
+        for group in (check_shell, check_words, check_files, check_stacks, check_requests, check_heads, check_bodies,
+                      check_large_bodies, check_random_chunks, check_cuts, check_hostile, check_outside, check_interruptions):
             group(checks)
         checks.end()
     finally:

@@ -1,5 +1,5 @@
 -- Fields and codings that are looked at one behind the other.
-use Rattle.std.proofs.Common.{◌≡◌, ◌≢◌, ℕ, ◌+◌, ◌<◌, true, false, nat_lt, if◌then◌else◌, List, [], ◌∷◌, ◌++◌, length, take, drop, map, slice_get, Bor, MatchOption, Option, None, Some, refl, ap, sym, ◌∙◌, arith, subst, length-append, inl, inr}
+use Rattle.std.proofs.Common.{◌≡◌, ◌≢◌, ℕ, ◌+◌, ◌<◌, true, false, nat_lt, if◌then◌else◌, List, [], ◌∷◌, ◌++◌, length, take, drop, map, slice_get, Bor, MatchOption, MatchResult, Option, None, Some, Result, Ok, Err, refl, ap, sym, ◌∙◌, arith, subst, length-append, inl, inr}
 use Rattle.std.proofs.lemmas.List.{append_assoc, append-nil, map-append, take-append-drop}
 use Rattle.std.proofs.lemmas.List.Elements.{filter-append}
 use Rattle.std.proofs.lemmas.Grind.{flat_map-append}
@@ -14,10 +14,13 @@ use Rattle.std.specs.Prelude.{codes}
 use Rattle.message_framing.specs.declared.fields.Occurs.{Occurs}
 use Rattle.message_framing.specs.declared.fields.Occurs.TheVariants.{Never, Once, Again}
 use Rattle.message_framing.specs.declared.fields.Codings.{Codings}
+use Rattle.message_framing.specs.declared.fields.Framing.{Framing}
+use Rattle.message_framing.specs.declared.fields.Framing.TheVariants.{Stated, Chunked}
+use Rattle.rack_types.specs.declared.fault.Fault.{Fault}
 use Rattle.rack_types.specs.declared.fault.Fault.TheVariants.{F}
 use Rattle.rack_types.specs.declared.limits.Version.{Version}
-use Rattle.message_framing.specs.Framing.{ends_chunked, is_host_right, fields_fault, body_fault, lengths_fault, transfer_fault}
-use Rattle.message_framing.specs.Found.{OccursAs, CodingsAs}
+use Rattle.message_framing.specs.Framing.{ends_chunked, is_host_right, fields_fault, body_fault, lengths_fault, transfer_fault, stated_length, framing_by, framing_of}
+use Rattle.message_framing.specs.Found.{OccursAs, CodingsAs, StatesAs}
 
 -- the last coding of a list with one more
 pub ends_chunked-push : (names : List (List ℕ)) (name : List ℕ) → ends_chunked (names ++ name ∷ []) ≡ same_ignoring_case name (codes "chunked")
@@ -184,3 +187,46 @@ pub fields_transfer : (version : Version) (fields : List (List ℕ × List ℕ))
     ≡ transfer_fault version (flat_map elements (values_of (codes "transfer-encoding") fields)) (values_of (codes "content-length") fields)
 unfolding fields_fault
 fields_transfer version fields right some = rw right (body_transfer version _ _ some)
+
+-- the framing of the fields, by their parts
+framing_plain : (fields : List (List ℕ × List ℕ)) → values_of (codes "transfer-encoding") fields ≡ []
+    → framing_of fields ≡ Stated (stated_length (values_of (codes "content-length") fields))
+unfolding framing_of
+framing_plain fields none = rw none refl
+
+framing_some : (values lengths : List (List ℕ)) → values ≢ [] → framing_by values lengths ≡ Chunked
+framing_some [] lengths some = absurd (some refl)
+framing_some (v ∷ values) lengths some = refl
+
+framing_chunked : (fields : List (List ℕ × List ℕ)) → values_of (codes "transfer-encoding") fields ≢ [] → Chunked ≡ framing_of fields
+unfolding framing_of
+framing_chunked fields some = sym (framing_some _ _ some)
+
+-- what Content-Length states, where there is no Transfer-Encoding
+pub stated_tell : (found : Result Framing Fault) (version : Version) (fields : List (List ℕ × List ℕ))
+    → is_host_right version (values_of (codes "host") fields) ≡ true → values_of (codes "transfer-encoding") fields ≡ []
+    → StatesAs found (values_of (codes "content-length") fields)
+    → MatchResult found (λ g. (fields_fault version fields ≡ None) × (g ≡ framing_of fields)) (λ f. fields_fault version fields ≡ Some f)
+stated_tell (Ok g) version fields right none h = (fields_plain version fields right none ∙ h.0, h.1 ∙ sym (framing_plain fields none))
+stated_tell (Err f) version fields right none h = fields_plain version fields right none ∙ h
+
+-- what Transfer-Encoding earns
+pub transfer_none : (v version : Version) (fields : List (List ℕ × List ℕ)) → is_host_right version (values_of (codes "host") fields) ≡ true
+    → values_of (codes "transfer-encoding") fields ≢ [] → v ≡ version
+    → None ≡ transfer_fault v (flat_map elements (values_of (codes "transfer-encoding") fields)) (values_of (codes "content-length") fields)
+    → (fields_fault version fields ≡ None) × (Chunked ≡ framing_of fields)
+transfer_none v version fields right some same h = (
+  fields_transfer version fields right some
+      ∙ ap (λ w. transfer_fault w (flat_map elements (values_of (codes "transfer-encoding") fields)) (values_of (codes "content-length") fields)) (sym same)
+      ∙ sym h,
+  framing_chunked fields some,
+)
+
+pub transfer_some : (v version : Version) (fields : List (List ℕ × List ℕ)) (f : Fault) → is_host_right version (values_of (codes "host") fields) ≡ true
+    → values_of (codes "transfer-encoding") fields ≢ [] → v ≡ version
+    → Some f ≡ transfer_fault v (flat_map elements (values_of (codes "transfer-encoding") fields)) (values_of (codes "content-length") fields)
+    → fields_fault version fields ≡ Some f
+transfer_some v version fields f right some same h =
+    fields_transfer version fields right some
+    ∙ ap (λ w. transfer_fault w (flat_map elements (values_of (codes "transfer-encoding") fields)) (values_of (codes "content-length") fields)) (sym same)
+    ∙ sym h

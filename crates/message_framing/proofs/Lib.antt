@@ -1,9 +1,13 @@
+pub mod ChunkLemmas
+pub mod DecodingLemmas
 pub mod FieldLemmas
 pub mod HeadLemmas
 pub mod IntakeLemmas
 pub mod PartsLemmas
 pub mod RequestLemmas
 pub mod ScanLemmas
+pub mod ShortLemmas
 pub mod SliceLemmas
 pub mod SoundLemmas
+pub mod StandingLemmas
 pub mod TargetLemmas

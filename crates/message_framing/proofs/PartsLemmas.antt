@@ -12,14 +12,15 @@ use Rattle.rack_types.specs.declared.request.Spans.{Spans}
 use Rattle.rack_types.specs.declared.fault.Fault.{Fault}
 use Rattle.rack_types.specs.declared.fault.Fault.TheVariants.{F}
 use Rattle.rack_types.specs.declared.limits.Version.{Version}
-use Rattle.rack_types.specs.Request.{IsWithinIf, Parts, parts_at, path_or_root, span_bytes_if}
+use Rattle.rack_types.specs.Request.{IsWithinIf, Parts, framed, parts_at, path_or_root, span_bytes_if}
+use Rattle.message_framing.specs.declared.fields.Framing.{Framing}
 use Rattle.message_framing.specs.declared.target.TargetSpans.{TargetSpans}
 use Rattle.message_framing.specs.HeadText.{head_text}
 use Rattle.message_framing.specs.Target.{Target, target_of}
-use Rattle.message_framing.specs.Framing.{fields_fault}
-use Rattle.message_framing.specs.Head.{head_fault, fields_of, request_with, version_of}
-use Rattle.message_framing.specs.Reads.{PartsAs, PartsTarget, ReadsHead, SpansTarget, shifted_by}
-use Rattle.message_framing.specs.Request.{IsGoodHead, IsGoodText, HeadRefusal, TextRefusal, has_too_many_lines}
+use Rattle.message_framing.specs.Framing.{fields_fault, framing_of}
+use Rattle.message_framing.specs.Head.{head_fault, head_framing, fields_of, is_chunked, request_with, version_of}
+use Rattle.message_framing.specs.Reads.{PartsAs, PartsTarget, ReadsHead, RefusedIn, RefusesHead, SpansTarget, StandsIn, StandsHead, shifted_by}
+use Rattle.message_framing.specs.Request.{has_too_many_lines}
 use Rattle.message_framing.proofs.SliceLemmas.{slice_slice, length-slice}
 
 -- the refusals that come before the fields
@@ -75,7 +76,7 @@ within_shifted_if text w s e (Some span) is order fits within = within_shifted t
 
 -- the parts of the request
 pub parts_of_head : (text : List ℕ) (places : List HeaderSpan) (head : RequestSpans) (spans : TargetSpans) (h : RequestHead) (t : Target)
-    (start : ℕ) (version : Version) → IsRequestAt text places head h → head.path.start ≤ head.path.end → head.path.end ≤ length text
+    (start : ℕ) (version : Version) (body : List ℕ) → IsRequestAt text places head h → head.path.start ≤ head.path.end → head.path.end ≤ length text
     → SpansTarget spans h.target t → version ≡ version_of h.minor
     → parts_at text places (record {
       start = start;
@@ -85,55 +86,71 @@ pub parts_of_head : (text : List ℕ) (places : List HeaderSpan) (head : Request
       authority = option_map (shifted_by head.path.start) spans.authority;
       version = version;
       fields = head.headers;
-    }) [] false
-    ≡ request_with h t
+    }) body (is_chunked (head_framing h))
+    ≡ request_with h t body
 unfolding request_with
-parts_of_head text places head spans h t start version at order fits cover minor =
+parts_of_head text places head spans h t start version body at order fits cover minor =
     let path = ap path_or_root (span_shifted text h.target _ _ spans.path at.path order fits cover.path_fits) ∙ cover.path in
     let query = span_shifted text h.target _ _ spans.query at.path order fits cover.query_fits ∙ cover.query in
     let authority = span_shifted_if text h.target _ _ spans.authority at.path order fits cover.authority_fits ∙ cover.authority in
     rw (at.method, path, query, authority, minor, at.fields) refl
 
--- the fields of a request's parts are those of its head
-fields_same : (h : RequestHead) (t : Target) (r : Parts) → r ≡ request_with h t
-    → fields_fault r.version r.fields ≡ fields_fault (version_of h.minor) (fields_of h)
-unfolding request_with
-fields_same h t r is = ap (λ (p : Parts). fields_fault p.version p.fields) is
+-- what is read of a head before its body is known: its version and fields are those of the head
+pub record HasFields (h : RequestHead) (r : Parts) : Type 0 where
+  pub version : r.version ≡ version_of h.minor
+  pub fields : r.fields ≡ fields_of h
 
--- a head whose fields earn no refusal
-pub good_request : (text : List ℕ) (places : List HeaderSpan) (s : RequestSpans) (spans : Spans) (r : Parts)
+fields_same : (text : List ℕ) (places : List HeaderSpan) (spans : Spans) (h : RequestHead) (r : Parts) → PartsAs text places spans h
+    → r ≡ parts_at text places spans [] false → HasFields h r
+unfolding request_with
+fields_same text places spans h r p made = record {
+  version = ap (λ (q : Parts). q.version) made ∙ ap (λ (q : Parts). q.version) (p.parts []);
+  fields = ap (λ (q : Parts). q.fields) made ∙ ap (λ (q : Parts). q.fields) (p.parts []);
+}
+
+-- what its fields earn, the head earns
+fault_same : (h : RequestHead) (t : Target) (r : Parts) → bytes_eq h.method (codes "CONNECT") ≡ false → target_of h.method h.target ≡ Some t
+    → HasFields h r → head_fault h ≡ fields_fault r.version r.fields
+fault_same h t r other form same =
+    fault_fields h t other form ∙ ap (λ v. fields_fault v (fields_of h)) (sym same.version) ∙ ap (fields_fault r.version) (sym same.fields)
+
+-- a head whose fields earn no refusal, and how its body is framed
+pub stands_in : (text : List ℕ) (places : List HeaderSpan) (s : RequestSpans) (spans : Spans) (r q : Parts) (g : Framing)
     → ReadsHead text places s → ((h : RequestHead) → IsRequestAt text places s h → PartsAs text places spans h)
-    → r ≡ parts_at text places spans [] false → fields_fault r.version r.fields ≡ None → IsGoodHead text r
-good_request text places s spans r reads parts made none =
+    → r ≡ parts_at text places spans [] false → fields_fault r.version r.fields ≡ None → g ≡ framing_of r.fields
+    → q ≡ framed [] (is_chunked g) r → StandsIn text q g
+stands_in text places s spans r q g reads parts made none framing put =
     let h = reads.head.0 in
     let p = parts h reads.head.2 in
-    let same : r ≡ request_with h p.target = made ∙ p.parts in
-    let fault : head_fault h ≡ None = fault_fields h p.target p.no_connect p.form ∙ sym (fields_same h p.target r same) ∙ none in
-    (h, reads.head.1, fault, (p.target, p.form, same))
+    let same = fields_same text places spans h r p made in
+    let fault : head_fault h ≡ None = fault_same h p.target r p.no_connect p.form same ∙ none in
+    let framing_is : g ≡ head_framing h = framing ∙ ap framing_of same.fields in
+    let whole : q ≡ request_with h p.target [] =
+    put ∙ ap (framed [] (is_chunked g)) made ∙ ap (λ (f : Framing). parts_at text places spans [] (is_chunked f)) framing_is ∙ p.parts [] in
+    (h, reads.head.1, fault, framing_is, (p.target, p.form, whole))
 
 -- a head whose fields earn one
 pub refused_fields : (text : List ℕ) (places : List HeaderSpan) (s : RequestSpans) (spans : Spans) (r : Parts) (f : Fault)
     → ReadsHead text places s → ((h : RequestHead) → IsRequestAt text places s h → PartsAs text places spans h)
-    → r ≡ parts_at text places spans [] false → fields_fault r.version r.fields ≡ Some f → HeadRefusal text f
+    → r ≡ parts_at text places spans [] false → fields_fault r.version r.fields ≡ Some f → RefusedIn text f
 refused_fields text places s spans r f reads parts made some =
     let h = reads.head.0 in
     let p = parts h reads.head.2 in
-    let same : r ≡ request_with h p.target = made ∙ p.parts in
-    let fault : head_fault h ≡ Some f = fault_fields h p.target p.no_connect p.form ∙ sym (fields_same h p.target r same) ∙ some in
-    inr (h, reads.head.1, fault)
+    let same = fields_same text places spans h r p made in
+    inr (h, reads.head.1, fault_same h p.target r p.no_connect p.form same ∙ some)
 
 -- a head that is refused before its fields
 pub refused_early : (text : List ℕ) (places : List HeaderSpan) (s : RequestSpans) (f : Fault) → ReadsHead text places s
-    → ((h : RequestHead) → IsRequestAt text places s h → head_fault h ≡ Some f) → HeadRefusal text f
+    → ((h : RequestHead) → IsRequestAt text places s h → head_fault h ≡ Some f) → RefusedIn text f
 refused_early text places s f reads tells = inr (reads.head.0, reads.head.1, tells reads.head.0 reads.head.2)
 
 -- the same of the text, whose lines are few enough
-pub few_good : (text bytes : List ℕ) (r : Parts) → has_too_many_lines text ≡ false → text ≡ head_text bytes → IsGoodHead text r
-    → IsGoodText (head_text bytes) r
-few_good text bytes r few is h =
-    subst (λ (t : List ℕ). IsGoodText t r) is (subst (λ (b : Bool). MatchBool b ⊥ (IsGoodHead text r)) (sym few) h)
+pub few_stands : (text bytes : List ℕ) (r : Parts) (g : Framing) → has_too_many_lines text ≡ false → text ≡ head_text bytes → StandsIn text r g
+    → StandsHead (head_text bytes) r g
+few_stands text bytes r g few is h =
+    subst (λ (t : List ℕ). StandsHead t r g) is (subst (λ (b : Bool). MatchBool b ⊥ (StandsIn text r g)) (sym few) h)
 
-pub few_refused : (text bytes : List ℕ) (f : Fault) → has_too_many_lines text ≡ false → text ≡ head_text bytes → HeadRefusal text f
-    → TextRefusal (head_text bytes) f
+pub few_refused : (text bytes : List ℕ) (f : Fault) → has_too_many_lines text ≡ false → text ≡ head_text bytes → RefusedIn text f
+    → RefusesHead (head_text bytes) f
 few_refused text bytes f few is h =
-    subst (λ (t : List ℕ). TextRefusal t f) is (subst (λ (b : Bool). MatchBool b (f ≡ F 2) (HeadRefusal text f)) (sym few) h)
+    subst (λ (t : List ℕ). RefusesHead t f) is (subst (λ (b : Bool). MatchBool b (f ≡ F 2) (RefusedIn text f)) (sym few) h)

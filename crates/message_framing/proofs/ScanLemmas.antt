@@ -4,7 +4,7 @@ use Rattle.std.proofs.lemmas.List.{drop_all, drop-drop, length-drop}
 use Rattle.std.proofs.lemmas.Bool.Decides.{eqb_tells}
 use Rattle.memchr.specs.Find.{Nowhere, Passes, is_byte}
 use Rattle.message_framing.specs.HeadText.{empty_line, skip, lines_end, head_len}
-use Rattle.message_framing.specs.Scan.{next, behind, one_more, ends}
+use Rattle.message_framing.specs.Scan.{fed, returned, lettered, next, behind, one_more, ends}
 use Rattle.message_framing.specs.declared.scan.Line.{Line}
 use Rattle.message_framing.specs.declared.scan.Line.TheVariants.{Skipping, SkippingReturn, Text, Start, Return, Ended}
 
@@ -418,3 +418,133 @@ ready_step first line after piece i h is =
       λ ended. sym (step.0 (sym is ∙ ended)),
       λ goes. rw is (step.1 (λ e. goes (is ∙ e))),
     )
+
+-- the scan has left the empty lines at the front
+abbrev has_left : Line → Bool
+has_left Skipping = false
+has_left SkippingReturn = false
+has_left Text = true
+has_left Start = true
+has_left Return = true
+has_left Ended = true
+
+-- it never comes back to them
+left_next : (line : Line) (b : ℕ) → has_left line ≡ true → has_left (next line b) ≡ true
+left_next line b left = elim (kind_of b) [
+  | feed is ↦ rw is (fed_left line left)
+  | return nofeed is ↦ rw (nofeed, is) (returned_left line left)
+  | letter nofeed noreturn ↦ rw (nofeed, noreturn) (lettered_left line left)
+]
+  where
+    fed_left : (line : Line) → has_left line ≡ true → has_left (fed line) ≡ true
+    fed_left Skipping left = left
+    fed_left SkippingReturn left = left
+    fed_left Text left = refl
+    fed_left Start left = refl
+    fed_left Return left = refl
+    fed_left Ended left = refl
+
+    returned_left : (line : Line) → has_left line ≡ true → has_left (returned line) ≡ true
+    returned_left Skipping left = left
+    returned_left SkippingReturn left = refl
+    returned_left Text left = refl
+    returned_left Start left = refl
+    returned_left Return left = refl
+    returned_left Ended left = refl
+
+    lettered_left : (line : Line) → has_left line ≡ true → has_left (lettered line) ≡ true
+    lettered_left Skipping left = refl
+    lettered_left SkippingReturn left = refl
+    lettered_left Text left = refl
+    lettered_left Start left = refl
+    lettered_left Return left = refl
+    lettered_left Ended left = refl
+
+left_stays : (line : Line) (b : List ℕ) → has_left line ≡ true → has_left (behind line b) ≡ true
+unfolding behind
+left_stays line [] left = left
+left_stays line (x ∷ b) left = left_stays (next line x) b (left_next line x left)
+
+not_back : (line : Line) (b : List ℕ) → has_left line ≡ true → behind line b ≢ Skipping
+not_back line b left = λ back. (let clash : true ≡ false = sym (left_stays line b left) ∙ ap has_left back in cc)
+
+-- once the head text has ended, the scan stays at its end
+pub behind_ended : (b : List ℕ) → behind Ended b ≡ Ended
+unfolding behind
+behind_ended [] = refl
+behind_ended (x ∷ b) = ap (λ (l : Line). behind l b) (stays x) ∙ behind_ended b
+  where
+    stays : (x : ℕ) → next Ended x ≡ Ended
+    stays x = elim (kind_of x) [
+      | feed is ↦ rw is refl
+      | return nofeed is ↦ rw (nofeed, is) refl
+      | letter nofeed noreturn ↦ rw (nofeed, noreturn) refl
+    ]
+
+-- a byte ends the head text, and the scan is at its end, or the rest decides
+ended_or_later : (l : Line) → (l ≡ Ended) ⊎ ((o : Option ℕ) → one_more l o ≡ option_map suc o)
+ended_or_later Skipping = inr (λ o. refl)
+ended_or_later SkippingReturn = inr (λ o. refl)
+ended_or_later Text = inr (λ o. refl)
+ended_or_later Start = inr (λ o. refl)
+ended_or_later Return = inr (λ o. refl)
+ended_or_later Ended = inl refl
+
+-- where an end is found, the scan is at it
+pub ended_behind : (line : Line) (b : List ℕ) (n : ℕ) → ends line b ≡ Some n → behind line b ≡ Ended
+unfolding ends behind
+ended_behind line [] n is = cc
+ended_behind line (x ∷ b) n is = elim (ended_or_later (next line x)) [
+  | inl ended ↦ ap (λ (l : Line). behind l b) ended ∙ behind_ended b
+  | inr later ↦ (let before = some_before _ n (sym (later (ends (next line x) b)) ∙ is) in ended_behind (next line x) b before.0 before.1)
+]
+
+-- the scan is among empty lines exactly where nothing else came
+pub skipping_is : (b : List ℕ) → behind Skipping b ≡ Skipping → skip b ≡ length b
+unfolding behind skip
+skipping_is [] is = refl
+skipping_is (x ∷ []) is = elim (kind_of x) [
+  | feed here ↦ rw here refl
+  | return nofeed here ↦ (let clash : SkippingReturn ≡ Skipping = rw (nofeed, here) at is in cc)
+  | letter nofeed noreturn ↦ (let clash : Text ≡ Skipping = rw (nofeed, noreturn) at is in cc)
+]
+skipping_is (x ∷ c ∷ r) is = elim (kind_of x) [
+  | feed here ↦
+      let on : behind Skipping (c ∷ r) ≡ Skipping = rw here at is in
+      let rest : skip (c ∷ r) ≡ length (c ∷ r) = skipping_is (c ∷ r) on in
+      rw here (ap suc rest ∙ omega arith)
+  | return nofeed here ↦ elim (kind_of c) [
+    | feed after ↦
+        let on : behind Skipping r ≡ Skipping = rw (nofeed, here, after) at is in
+        let rest : skip r ≡ length r = skipping_is r on in
+        rw (nofeed, here, after) (omega (arith, rest))
+    | return nofeed_after after ↦
+        (let on : behind Text r ≡ Skipping = rw (nofeed, here, nofeed_after, after) at is in absurd (not_back Text r refl on))
+    | letter nofeed_after noreturn_after ↦
+        (let on : behind Text r ≡ Skipping = rw (nofeed, here, nofeed_after, noreturn_after) at is in absurd (not_back Text r refl on))
+  ]
+  | letter nofeed noreturn ↦
+      (let on : behind Text (c ∷ r) ≡ Skipping = rw (nofeed, noreturn) at is in absurd (not_back Text (c ∷ r) refl on))
+]
+
+pub not_skipping : (b : List ℕ) → behind Skipping b ≢ Skipping → skip b < length b
+unfolding behind skip
+not_skipping [] other = absurd (other refl)
+not_skipping (x ∷ []) other = elim (kind_of x) [
+  | feed here ↦ absurd (other (rw here refl))
+  | return nofeed here ↦ rw nofeed (omega arith)
+  | letter nofeed noreturn ↦ rw nofeed (omega arith)
+]
+not_skipping (x ∷ c ∷ r) other = elim (kind_of x) [
+  | feed here ↦
+      let rest : skip (c ∷ r) < length (c ∷ r) = not_skipping (c ∷ r) (λ on. other (rw here on)) in
+      rw here (omega (arith, rest))
+  | return nofeed here ↦ elim (kind_of c) [
+    | feed after ↦
+        let rest : skip r < length r = not_skipping r (λ on. other (rw (nofeed, here, after) on)) in
+        rw (nofeed, here, after) (omega (arith, rest))
+    | return nofeed_after after ↦ rw (nofeed, here, nofeed_after) (omega arith)
+    | letter nofeed_after noreturn_after ↦ rw (nofeed, here, nofeed_after) (omega arith)
+  ]
+  | letter nofeed noreturn ↦ rw (nofeed, noreturn) (omega arith)
+]

@@ -1,6 +1,6 @@
 -- A request that message framing takes is one whose environment breaks no rule.
 use mathlib.Core.Bool.{cond}
-use Rattle.std.proofs.Common.{◌≡◌, ℕ, suc, ◌+◌, ◌<◌, ◌≤◌, Bool, true, false, ◌&&◌, ◌||◌, ◌==◌, not, nat_lt, if◌then◌else◌, MatchBool, List, [], ◌∷◌, length, take, drop, Option, None, Some, refl, ap, sym, ◌∙◌, subst, arith, codes}
+use Rattle.std.proofs.Common.{◌≡◌, ℕ, suc, ◌+◌, Bool, true, false, ◌&&◌, ◌||◌, ◌==◌, not, nat_lt, if◌then◌else◌, MatchBool, List, [], ◌∷◌, length, take, drop, Option, None, Some, refl, ap, sym, ◌∙◌, subst, arith, codes}
 use Rattle.std.specs.List.{position_or_len, before_first, list_all}
 use Rattle.std.specs.Str.{bytes_eq}
 use Rattle.std.proofs.lemmas.Bool.{lt-ltb}
@@ -9,7 +9,6 @@ use Rattle.std.proofs.lemmas.List.Sums.{list_all-from_AllPass}
 use Rattle.httparse.specs.Grammar.{RequestHead, IsToken, is_token, is_token_byte}
 use Rattle.rack_text.specs.Decimal.{is_decimal, decimal_value}
 use Rattle.rack_text.specs.Host.{is_valid_host}
-use Rattle.rack_types.specs.declared.fault.Fault.{Fault}
 use Rattle.rack_types.specs.declared.fault.Fault.TheVariants.{F}
 use Rattle.rack_types.specs.declared.limits.Version.{Version}
 use Rattle.rack_types.specs.declared.limits.Version.TheVariants.{Http10, Http11}
@@ -17,11 +16,11 @@ use Rattle.rack_types.specs.Fields.{values_of}
 use Rattle.rack_types.specs.Request.{Parts, path_or_root}
 use Rattle.rack_types.specs.Rules.{begins_with_slash}
 use Rattle.message_framing.specs.HeadText.{head_text}
-use Rattle.message_framing.specs.Head.{IsHead, IsRequestOf, head_fault, fault_with, fields_of, version_of, request_with}
-use Rattle.message_framing.specs.Framing.{body_limit, is_host_right, length_fault, lengths_fault, transfer_fault, coding_fault, ends_chunked, body_fault, fields_fault}
+use Rattle.message_framing.specs.Head.{head_fault, fault_with, fields_of, version_of, request_with}
+use Rattle.message_framing.specs.Framing.{body_limit, is_host_right, length_fault, lengths_fault, transfer_fault, body_fault, fields_fault}
 use Rattle.message_framing.specs.Target.{Target, target_of, absolute, from_path, ends_authority, is_question, is_target_byte, scheme_len}
-use Rattle.message_framing.specs.Request.{has_too_many_lines, IsGoodHead, IsGoodText, IsRequest}
-use Rattle.message_framing.proofs.RequestLemmas.{request_ends}
+use Rattle.message_framing.specs.Request.{has_too_many_lines, IsGoodHead, IsRequest}
+use Rattle.message_framing.proofs.RequestLemmas.{request_head}
 use Rattle.message_framing.proofs.TargetLemmas.{target_unclean, target_slash, target_scheme, target_asterisk, target_other}
 use Rattle.rack_types.specs.Sound.{IsSound, is_path_right, is_length_right}
 
@@ -127,7 +126,7 @@ length_right : (value : List ℕ) → length_fault value ≡ None → is_decimal
 length_right value is = go (is_decimal value) refl is
   where
     go : (b : Bool) → is_decimal value ≡ b
-        → (if not b then Some (F 11) else if nat_lt body_limit (decimal_value value) then Some (F 12) else if nat_lt 0 (decimal_value value) then Some (F 0) else None) ≡ None
+        → (if not b then Some (F 11) else if nat_lt body_limit (decimal_value value) then Some (F 12) else None) ≡ None
         → is_decimal value ≡ true
     go true so none = so
     go false so none = absurd (let clash : Some (F 11) ≡ None = none in cc)
@@ -137,22 +136,15 @@ lengths_right [] is = refl
 lengths_right (value ∷ []) is = length_right value is
 lengths_right (value ∷ next ∷ more) is = absurd (let clash : Some (F 11) ≡ None = is in cc)
 
-coding_refused : (codings : List (List ℕ)) → coding_fault codings ≡ None → ⊥
-coding_refused codings is = go (ends_chunked codings) (nat_lt 1 (length codings)) is
-  where
-    go : (a b : Bool) → (if not a then Some (F 9) else if b then Some (F 10) else Some (F 0)) ≡ None → ⊥
-    go false b none = let clash : Some (F 9) ≡ None = none in cc
-    go true true none = let clash : Some (F 10) ≡ None = none in cc
-    go true false none = let clash : Some (F 0) ≡ None = none in cc
-
-transfer_refused : (v : Version) (codings lengths : List (List ℕ)) → transfer_fault v codings lengths ≡ None → ⊥
-transfer_refused Http10 codings lengths is = let clash : Some (F 7) ≡ None = is in cc
-transfer_refused Http11 codings [] is = coding_refused codings is
-transfer_refused Http11 codings (value ∷ more) is = let clash : Some (F 8) ≡ None = is in cc
+-- with Transfer-Encoding there is none
+transfer_right : (v : Version) (codings lengths : List (List ℕ)) → transfer_fault v codings lengths ≡ None → is_length_right lengths ≡ true
+transfer_right Http10 codings lengths is = absurd (let clash : Some (F 7) ≡ None = is in cc)
+transfer_right Http11 codings [] is = refl
+transfer_right Http11 codings (value ∷ more) is = absurd (let clash : Some (F 8) ≡ None = is in cc)
 
 body_right : (v : Version) (transfer lengths : List (List ℕ)) → body_fault v transfer lengths ≡ None → is_length_right lengths ≡ true
 body_right v [] lengths is = lengths_right lengths is
-body_right v (value ∷ more) lengths is = absurd (transfer_refused v _ lengths is)
+body_right v (value ∷ more) lengths is = transfer_right v _ lengths is
 
 fields_right : (v : Version) (fields : List (List ℕ × List ℕ)) → fields_fault v fields ≡ None → is_length_right (values_of (codes "content-length") fields) ≡ true
 unfolding fields_fault
@@ -174,20 +166,24 @@ head_right h target is none = go (bytes_eq h.method (codes "CONNECT")) none
     go false none = fields_right (version_of h.minor) (fields_of h) (sym (ap (λ (o : Option Target). fault_with o h) is) ∙ none)
 
 -- a request of a head that earns no refusal
-good_sound : (text : List ℕ) (r : Parts) → IsGoodHead text r → IsSound r
+good_sound : (text body : List ℕ) (r : Parts) → IsGoodHead text body r → IsSound r
 unfolding request_with
-good_sound text r good =
+good_sound text body r good =
     let h = good.0 in
-    let target = good.3.0 in
-    subst (λ (q : Parts). IsSound q) (sym good.3.2) (record {
-      method = is_token_so h.method good.1.0.0.method;
-      path = path_right h.method h.target target good.3.1;
-      length = head_right h target good.3.1 good.2;
+    let of = good.5 in
+    subst (λ (q : Parts). IsSound q) (sym of.2) (record {
+      method = is_token_so h.method good.2.0.0.method;
+      path = path_right h.method h.target of.0 of.1;
+      length = head_right h of.0 of.1 good.3;
     })
 
 pub request_sound : (b : List ℕ) (r : Parts) → IsRequest b r → IsSound r
-request_sound b r is = go (has_too_many_lines (head_text b)) (request_ends b r is).good
+request_sound b r is =
+    let whole = request_head b r is in
+    let text : List ℕ = head_text (take whole.n b) in
+    let body : List ℕ = drop whole.n b in
+    go text body (has_too_many_lines text) whole.good
   where
-    go : (many : Bool) → MatchBool many ⊥ (IsGoodHead (head_text b) r) → IsSound r
-    go true good = absurd good
-    go false good = good_sound (head_text b) r good
+    go : (text body : List ℕ) (many : Bool) → MatchBool many ⊥ (IsGoodHead text body r) → IsSound r
+    go text body true good = absurd good
+    go text body false good = good_sound text body r good

@@ -1,9 +1,12 @@
 -- What was found of the fields of one name, and of the transfer codings.
-use Rattle.std.specs.Prelude.{◌≡◌, ℕ, ◌<◌, nat_lt, List, [], ◌∷◌, length}
+use Rattle.std.specs.Prelude.{◌≡◌, ℕ, ◌<◌, nat_lt, List, [], ◌∷◌, length, None, Some, Result, Ok, Err}
+use Rattle.rack_types.specs.declared.fault.Fault.{Fault}
 use Rattle.message_framing.specs.declared.fields.Occurs.{Occurs}
 use Rattle.message_framing.specs.declared.fields.Occurs.TheVariants.{Never, Once, Again}
 use Rattle.message_framing.specs.declared.fields.Codings.{Codings}
-use Rattle.message_framing.specs.Framing.{ends_chunked}
+use Rattle.message_framing.specs.declared.fields.Framing.{Framing}
+use Rattle.message_framing.specs.declared.fields.Framing.TheVariants.{Stated}
+use Rattle.message_framing.specs.Framing.{ends_chunked, lengths_fault, stated_length}
 
 -- how many values there are, with the one that is alone
 abbrev pub OccursAs : Occurs → List (List ℕ) → Type 0
@@ -16,3 +19,8 @@ pub record CodingsAs (c : Codings) (names : List (List ℕ)) : Type 0 where
   pub some_is : c.some ≡ nat_lt 0 (length names)
   pub more_is : c.more ≡ nat_lt 1 (length names)
   pub last_is : c.ends_chunked ≡ ends_chunked names
+
+-- the framing that the values of Content-Length state, or their refusal
+abbrev pub StatesAs : Result Framing Fault → List (List ℕ) → Type 0
+StatesAs (Ok framing) values = (lengths_fault values ≡ None) × (framing ≡ Stated (stated_length values))
+StatesAs (Err fault) values = lengths_fault values ≡ Some fault

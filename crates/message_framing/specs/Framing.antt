@@ -1,8 +1,7 @@
 -- What the fields of a head say of its host and of its body (RFC 9112, sections 3.2 and 6; RFC 9110,
 -- section 8.6). Stricter than these, so that no head can be read in two ways, and this project's own:
 -- a repeated Content-Length, a list in one, Content-Length beside Transfer-Encoding, and
--- Transfer-Encoding in HTTP/1.0 are refused. The refusals come in the order of their numbers, and
--- F 0, a form that is not built yet, comes last.
+-- Transfer-Encoding in HTTP/1.0 are refused. The refusals come in the order of their numbers.
 use Rattle.std.specs.Prelude.{ℕ, Bool, true, false, not, nat_lt, if◌then◌else◌, List, [], ◌∷◌, length, Option, None, Some, codes}
 use Rattle.std.specs.List.{flat_map}
 use Rattle.rack_text.specs.Case.{same_ignoring_case}
@@ -15,6 +14,8 @@ use Rattle.rack_types.specs.declared.limits.Version.{Version}
 use Rattle.rack_types.specs.declared.limits.Version.TheVariants.{Http10, Http11}
 use Rattle.rack_types.specs.Fields.{values_of}
 use Rattle.rack_types.specs.Limits.{stock_limits}
+use Rattle.message_framing.specs.declared.fields.Framing.{Framing}
+use Rattle.message_framing.specs.declared.fields.Framing.TheVariants.{Stated, Chunked}
 
 -- the largest body
 abbrev pub body_limit : ℕ
@@ -38,14 +39,13 @@ abbrev pub coding_fault : List (List ℕ) → Option Fault
 coding_fault codings =
     if not (ends_chunked codings) then Some (F 9)
     else if nat_lt 1 (length codings) then Some (F 10)
-    else Some (F 0)
+    else None
 
 -- the refusal that one Content-Length earns
 abbrev pub length_fault : List ℕ → Option Fault
 length_fault value =
     if not (is_decimal value) then Some (F 11)
     else if nat_lt body_limit (decimal_value value) then Some (F 12)
-    else if nat_lt 0 (decimal_value value) then Some (F 0)
     else None
 
 -- the refusal that the values of Content-Length earn: there is one at most
@@ -70,3 +70,17 @@ unfoldable pub fields_fault : Version → List (List ℕ × List ℕ) → Option
 fields_fault version fields =
     if not (is_host_right version (values_of (codes "host") fields)) then Some (F 6)
     else body_fault version (values_of (codes "transfer-encoding") fields) (values_of (codes "content-length") fields)
+
+-- how many bytes the values of Content-Length state, none where there is no such field
+abbrev pub stated_length : List (List ℕ) → ℕ
+stated_length [] = 0
+stated_length (value ∷ more) = decimal_value value
+
+-- how the body is framed, by the values of Transfer-Encoding and of Content-Length
+abbrev pub framing_by : List (List ℕ) → List (List ℕ) → Framing
+framing_by [] lengths = Stated (stated_length lengths)
+framing_by (value ∷ more) lengths = Chunked
+
+-- how the body behind a head with these fields is framed, where they earn no refusal
+unfoldable pub framing_of : List (List ℕ × List ℕ) → Framing
+framing_of fields = framing_by (values_of (codes "transfer-encoding") fields) (values_of (codes "content-length") fields)

@@ -1,5 +1,5 @@
 -- A head, and what it says (RFC 9112, sections 2 to 6).
-use Rattle.std.specs.Prelude.{◌≡◌, ℕ, ◌≤◌, ◌-◌, Bool, false, ◌==◌, if◌then◌else◌, List, [], length, map, count_by, Option, None, Some, codes, bytes_eq}
+use Rattle.std.specs.Prelude.{◌≡◌, ℕ, ◌≤◌, ◌-◌, Bool, true, false, ◌==◌, if◌then◌else◌, List, [], length, map, count_by, Option, None, Some, codes, bytes_eq}
 use Rattle.httparse.specs.Grammar.{RequestHead, ReadsRequest}
 use Rattle.httparse.specs.Spans.{name_and_value}
 use Rattle.rack_types.specs.declared.fault.Fault.{Fault}
@@ -10,7 +10,9 @@ use Rattle.rack_types.specs.Limits.{stock_limits}
 use Rattle.rack_types.specs.Request.{Parts}
 use Rattle.message_framing.specs.HeadText.{lf}
 use Rattle.message_framing.specs.Target.{Target, target_of}
-use Rattle.message_framing.specs.Framing.{fields_fault}
+use Rattle.message_framing.specs.declared.fields.Framing.{Framing}
+use Rattle.message_framing.specs.declared.fields.Framing.TheVariants.{Stated, Chunked}
+use Rattle.message_framing.specs.Framing.{fields_fault, framing_of}
 
 -- the byte is a line feed
 abbrev pub is_line_feed : ℕ → Bool
@@ -45,19 +47,29 @@ fault_with (Some target) h = fields_fault (version_of h.minor) (fields_of h)
 unfoldable pub head_fault : RequestHead → Option Fault
 head_fault h = if bytes_eq h.method (codes "CONNECT") then Some (F 4) else fault_with (target_of h.method h.target) h
 
--- the request with this head and this target, and no body
-unfoldable pub request_with : RequestHead → Target → Parts
-request_with h target = record {
+-- how the body behind the head is framed
+abbrev pub head_framing : RequestHead → Framing
+head_framing h = framing_of (fields_of h)
+
+-- the body comes in chunks
+abbrev pub is_chunked : Framing → Bool
+is_chunked (Stated n) = false
+is_chunked Chunked = true
+
+-- the request with this head, this target and this body
+unfoldable pub request_with : RequestHead → Target → List ℕ → Parts
+request_with h target body = record {
   method = h.method;
   path = target.path;
   query = target.query;
   authority = target.authority;
   version = version_of h.minor;
   fields = fields_of h;
-  body = [];
-  chunked = false;
+  body = body;
+  chunked = is_chunked (head_framing h);
 }
 
--- r is the request of this head
-abbrev pub IsRequestOf : RequestHead → Parts → Type 0
-IsRequestOf h r = (target : Target) × (target_of h.method h.target ≡ Some target) × (r ≡ request_with h target)
+-- r is the request of this head with this body
+abbrev pub IsRequestOf : RequestHead → List ℕ → Parts → Type 0
+IsRequestOf h body r =
+    (target : Target) × (target_of h.method h.target ≡ Some target) × (r ≡ request_with h target body)

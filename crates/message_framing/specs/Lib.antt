@@ -1,3 +1,6 @@
+pub mod Body
+pub mod Chunks
+pub mod Decoding
 pub mod Found
 pub mod Framing
 pub mod Head
@@ -6,4 +9,5 @@ pub mod Intake
 pub mod Reads
 pub mod Request
 pub mod Scan
+pub mod Standing
 pub mod Target

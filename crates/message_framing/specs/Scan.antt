@@ -1,4 +1,4 @@
--- What the scan of a head knows of the bytes so far.
+-- What the scan for the end of a head or of a trailer knows of the bytes so far.
 use Rattle.std.specs.Prelude.{ℕ, suc, ◌==◌, if◌then◌else◌, List, [], ◌∷◌, Option, None, Some, option_map}
 use Rattle.message_framing.specs.HeadText.{lf, cr}
 use Rattle.message_framing.specs.declared.scan.Line.{Line}
@@ -40,7 +40,7 @@ unfoldable pub behind : Line → List ℕ → Line
 behind line [] = line
 behind line (b ∷ rest) = behind (next line b) rest
 
--- one byte further: the head text ends with this byte, or so many bytes behind it
+-- one byte further: the text ends with this byte, or so many bytes behind it
 abbrev pub one_more : Line → Option ℕ → Option ℕ
 one_more Ended later = Some 1
 one_more Skipping later = option_map suc later
@@ -49,7 +49,7 @@ one_more Text later = option_map suc later
 one_more Start later = option_map suc later
 one_more Return later = option_map suc later
 
--- how many of the bytes end the head text, if they do
+-- how many of the bytes end the text, if they do
 unfoldable pub ends : Line → List ℕ → Option ℕ
 ends line [] = None
 ends line (b ∷ rest) = one_more (next line b) (ends (next line b) rest)

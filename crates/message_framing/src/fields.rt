@@ -1,10 +1,11 @@
 // What the fields of a head say of its host and of its body, and what they are refused for.
-ghost use Rattle.std.specs.Prelude.{◌≡◌, ◌≢◌, ◌<◌, ℕ, List, [], ◌∷◌, ◌++◌, Some, length, codes, MatchOption};
+ghost use Rattle.std.specs.Prelude.{◌≡◌, ◌≢◌, ℕ, List, [], ◌++◌, None, Some, codes, MatchOption, MatchResult};
 ghost use Rattle.std.specs.List.{flat_map};
+ghost use Rattle.rack_text.specs.Decimal.{decimal_value};
 ghost use Rattle.rack_text.specs.Lists.{elements};
 ghost use Rattle.rack_types.specs.Fields.{values_of};
-ghost use Rattle.message_framing.specs.Framing.{is_host_right, coding_fault, length_fault, lengths_fault, transfer_fault, body_fault, fields_fault};
-ghost use Rattle.message_framing.specs.Found.{OccursAs, CodingsAs};
+ghost use Rattle.message_framing.specs.Framing.{is_host_right, coding_fault, length_fault, transfer_fault, fields_fault, framing_of};
+ghost use Rattle.message_framing.specs.Found.{OccursAs, CodingsAs, StatesAs};
 
 use rack_text::{elements, is_decimal, read_decimal, read_host, same_ignoring_case};
 use rack_types::{Fault, Request, Version};
@@ -20,19 +21,32 @@ pub(crate) enum Occurs<'a> {
     Again,
 }
 
-/// The refusal that the fields earn by what they say of host and body: the least one, and F0, a form
-/// that is not built yet, last.
-pub(crate) fn fields_fault(request: &Request) -> Option<Fault>
-    ensures { result ≡ fields_fault request.now.version request.now.fields }
+/// How the body behind a head is framed.
+#[derive(Clone, Copy)]
+pub(crate) enum Framing {
+    /// By its length in bytes, 0 where none is stated.
+    Stated(usize),
+    /// In chunks.
+    Chunked,
+}
+
+/// How the body is framed, by what the fields say of host and body, or the least refusal that they earn.
+pub(crate) fn body_framing(request: &Request) -> Result<Framing, Fault>
+    ensures { MatchResult result
+        (λ framing. (fields_fault request.now.version request.now.fields ≡ None) × (framing ≡ framing_of request.now.fields))
+        (λ fault. fields_fault request.now.version request.now.fields ≡ Some fault) }
 {
     let version = request.version();
     if !is_host_right(version, occurs_in(request, b"host")) {
-        return Some(Fault::F(6));
+        return Err(Fault::F(6));
     }
     let length = occurs_in(request, b"content-length");
     match codings_of(request) {
-        None => lengths_fault(length),
-        Some(codings) => transfer_fault(version, codings, length),
+        None => stated(length),
+        Some(codings) => match transfer_fault(version, codings, length) {
+            None => Ok(Framing::Chunked),
+            Some(fault) => Err(fault),
+        },
     }
 }
 
@@ -63,28 +77,32 @@ fn is_host_right(version: Version, host: Occurs<'_>) -> bool
     }
 }
 
-// The refusal by Content-Length, where there is no Transfer-Encoding.
-fn lengths_fault(length: Occurs<'_>) -> Option<Fault>
-    ensures { (values : List (List ℕ)) → OccursAs length.entry values → result ≡ lengths_fault values }
+// The framing by Content-Length, where there is no Transfer-Encoding.
+fn stated(length: Occurs<'_>) -> Result<Framing, Fault>
+    ensures { (values : List (List ℕ)) → OccursAs length.entry values → StatesAs result values }
 {
     match length {
-        Occurs::Never => None,
-        Occurs::Once(value) => length_fault(value),
-        Occurs::Again => Some(Fault::F(11)),
+        Occurs::Never => Ok(Framing::Stated(0)),
+        Occurs::Once(value) => match stated_by(value) {
+            Ok(length) => Ok(Framing::Stated(length)),
+            Err(fault) => Err(fault),
+        },
+        Occurs::Again => Err(Fault::F(11)),
     }
 }
 
-// The refusal by one Content-Length.
-fn length_fault(value: &[u8]) -> Option<Fault>
-    ensures { result ≡ length_fault value.now }
+// The length that one Content-Length states.
+fn stated_by(value: &[u8]) -> Result<usize, Fault>
+    ensures { MatchResult result
+        (λ length. (length_fault value.now ≡ None) × (length ≡ decimal_value value.now))
+        (λ fault. length_fault value.now ≡ Some fault) }
 {
     if !is_decimal(value) {
-        return Some(Fault::F(11));
+        return Err(Fault::F(11));
     }
     match read_decimal(value) {
-        Some(0) => None,
-        Some(length) if length <= BODY_LIMIT => Some(Fault::F(0)),
-        _ => Some(Fault::F(12)),
+        Some(length) if length <= BODY_LIMIT => Ok(length as usize),
+        _ => Err(Fault::F(12)),
     }
 }
 
@@ -105,20 +123,20 @@ fn transfer_fault(version: Version, codings: Codings, length: Occurs<'_>) -> Opt
 {
     match (version, length) {
         (Version::Http10, _) => Some(Fault::F(7)),
-        (Version::Http11, Occurs::Never) => Some(coding_fault(codings)),
+        (Version::Http11, Occurs::Never) => coding_fault(codings),
         (Version::Http11, _) => Some(Fault::F(8)),
     }
 }
 
-fn coding_fault(codings: Codings) -> Fault
-    ensures { (names : List (List ℕ)) → CodingsAs codings names → Some result ≡ coding_fault names }
+fn coding_fault(codings: Codings) -> Option<Fault>
+    ensures { (names : List (List ℕ)) → CodingsAs codings names → result ≡ coding_fault names }
 {
     if !codings.ends_chunked {
-        Fault::F(9)
+        Some(Fault::F(9))
     } else if codings.more {
-        Fault::F(10)
+        Some(Fault::F(10))
     } else {
-        Fault::F(0)
+        None
     }
 }
 

@@ -1,15 +1,15 @@
 // A whole head text, read and judged.
-ghost use Rattle.std.specs.Prelude.{◌≡◌, ◌≤◌, ◌<◌, ◌+◌, ◌^◌, [], Some, length, drop, vec_len, IfOk, IfSome, IfNone, MatchResult};
+ghost use Rattle.std.specs.Prelude.{◌≡◌, ◌≤◌, ◌<◌, ◌+◌, ◌^◌, [], Some, length, drop, vec_len, vec_capacity, IfOk, IfSome, IfNone, MatchResult};
 ghost use Rattle.std.specs.Option.{ForSome, option_map};
 ghost use Rattle.httparse.specs.Grammar.{RequestHead};
 ghost use Rattle.httparse.specs.Spans.{IsRequestAt};
 ghost use Rattle.rack_types.specs.Request.{SpansFit};
 ghost use Rattle.message_framing.specs.HeadText.{head_text};
-ghost use Rattle.message_framing.specs.Head.{IsNoHead, head_fault, version_of};
-ghost use Rattle.message_framing.specs.Request.{IsGoodText, TextRefusal, has_too_many_lines};
-ghost use Rattle.message_framing.specs.Reads.{PartsAs, ReadsHead, shifted_by};
+ghost use Rattle.message_framing.specs.Head.{IsNoHead, head_fault, is_chunked, version_of};
+ghost use Rattle.message_framing.specs.Request.{has_too_many_lines};
+ghost use Rattle.message_framing.specs.Reads.{PartsAs, ReadsHead, RefusesHead, StandsHead, shifted_by};
 
-use crate::fields::fields_fault;
+use crate::fields::{Framing, body_framing};
 use crate::scan::{skip, suffix};
 use crate::target::read_target;
 use httparse::Status;
@@ -25,6 +25,7 @@ fn parse_head(text: &[u8], places: &mut Vec<HeaderSpan>) -> Option<RequestSpans>
     requires { vec_len places.old ≡ 64 }
     ensures head { IfSome result (λ s. ReadsHead text.now places.new.items s) }
     ensures none { IfNone result (IsNoHead text.now) }
+    ensures places { vec_len places.new ≡ 64 }
 {
     match parse_request(text, places.as_mut_slice()) {
         Ok(Status::Complete(head)) => {
@@ -45,11 +46,21 @@ fn has_too_many_lines(text: &[u8]) -> bool
     memchr_iter(b'\n', text).count().saturating_sub(2) > LINES_LIMIT
 }
 
-/// Reads a whole head, with the empty lines before it: its request, which has no body, or the first
-/// refusal that it earns. It takes no memory.
-pub(crate) fn read_head(bytes: Vec<u8>, mut places: Vec<HeaderSpan>) -> Result<Request, Fault>
-    requires { vec_len places ≡ 64 }
-    ensures { MatchResult result (IsGoodText (head_text bytes.items)) (TextRefusal (head_text bytes.items)) }
+/// A whole head that earns no refusal.
+#[derive(Drop)]
+pub(crate) struct Head {
+    /// Its request, without a body.
+    pub(crate) request: Request,
+    /// How the body behind it is framed.
+    pub(crate) framing: Framing,
+}
+
+/// Reads a whole head, with the empty lines before it, or gives the first refusal that it earns. It takes
+/// no memory.
+pub(crate) fn read_head(bytes: Vec<u8>, mut places: Vec<HeaderSpan>) -> Result<Head, Fault>
+    requires room { 32768 ≤ vec_capacity bytes }
+    requires places { vec_len places ≡ 64 }
+    ensures { MatchResult result (λ head. StandsHead (head_text bytes.items) head.request head.framing) (RefusesHead (head_text bytes.items)) }
 {
     let start = skip(&bytes);
     let text = suffix(&bytes, start);
@@ -60,11 +71,19 @@ pub(crate) fn read_head(bytes: Vec<u8>, mut places: Vec<HeaderSpan>) -> Result<R
         return Err(Fault::F(3));
     };
     let spans = parts_of(start, text, &head, &places)?;
-    let body = Vec::new(*bytes.allocator());
-    let request = Request::new(bytes, places, spans, body, false);
-    match fields_fault(&request) {
-        None => Ok(request),
-        Some(fault) => Err(fault),
+    let alloc = *bytes.allocator();
+    let mut request = Request::new(bytes, places, spans, Vec::new(alloc), false);
+    let framing = body_framing(&request)?;
+    request.put_body(Vec::new(alloc), is_chunked(framing));
+    Ok(Head { request, framing })
+}
+
+fn is_chunked(framing: Framing) -> bool
+    ensures { result ≡ is_chunked framing }
+{
+    match framing {
+        Framing::Stated(_) => false,
+        Framing::Chunked => true,
     }
 }
 

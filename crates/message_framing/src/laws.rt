@@ -27,8 +27,8 @@ pub fn what_stands_stays(bytes: &[u8], more: &[u8])
     ensures prefix { (r q : Parts) → IsRequest bytes.now r → IsRequest (bytes.now ++ more.now) q → more.now ≡ [] }
 {}
 
-/// At most one answer of `feed` is right. So behind a whole request it is `Whole(0)`, and behind a refusal
-/// that refusal.
+/// At most one answer of `feed` is right. Behind a whole request the right one is `Whole(0)`, and behind a
+/// refusal that refusal.
 pub fn one_answer_is_right(bytes: &[u8], piece: &[u8])
     ensures same { (a b : Feed) → IsRight a bytes.now piece.now → IsRight b bytes.now piece.now → a ≡ b }
     ensures whole { (r : Parts) (a : Feed) → IsRequest bytes.now r → IsRight a bytes.now piece.now → a ≡ Feed.Whole 0 }
@@ -40,7 +40,7 @@ pub fn request_is_sound(bytes: &[u8])
     ensures { (r : Parts) → IsRequest bytes.now r → IsSound r }
 {}
 
-/// What stands in these bytes: one of the three always does. It takes the memory of an intake.
+/// What stands in these bytes, where memory suffices: one of the three always does.
 pub fn what_stands(alloc: Global, bytes: &[u8]) -> Result<Feed, NoMemory>
     ensures { IfOk result (λ answer. IsRight answer [] bytes.now) }
 {

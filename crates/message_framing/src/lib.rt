@@ -1,11 +1,13 @@
 //! Message framing: where a request begins and ends in the bytes of a connection (RFC 9112).
 #![tactic(auto)]
 
+mod chunks;
 mod fields;
 mod head;
 mod intake;
 mod laws;
 mod scan;
+mod standing;
 mod target;
 
 pub use intake::{Feed, Intake};

@@ -1,5 +1,5 @@
-// Where a head ends, found piece by piece.
-ghost use Rattle.std.specs.Prelude.{◌≡◌, ◌<◌, ◌≤◌, length, drop, take, None, IfNone, OnSome};
+// Where a head or a trailer ends, found piece by piece.
+ghost use Rattle.std.specs.Prelude.{◌≡◌, ◌≤◌, length, drop, take};
 ghost use Rattle.message_framing.specs.HeadText.{skip};
 ghost use Rattle.message_framing.specs.Scan.{next, behind, ends};
 
@@ -14,11 +14,11 @@ pub(crate) enum Line {
     SkippingReturn,
     /// Inside a line that is not empty.
     Text,
-    /// At the start of a line of the head.
+    /// At the start of a line behind another, or of the first line of a trailer.
     Start,
     /// The same, and a carriage return.
     Return,
-    /// The head text has ended.
+    /// The head text or the trailer has ended.
     Ended,
 }
 
@@ -38,11 +38,11 @@ impl Line {
         }
     }
 
-    // Goes on over a piece: how many of its bytes end the head text, where they do, and the state
+    // Goes on over a piece: how many of its bytes end the head text or the trailer, where they do, and the state
     // behind them. Inside a line it looks for the next line feed alone.
     pub(crate) fn scan(&mut self, piece: &[u8]) -> Option<usize>
         ensures end { result ≡ ends self.old piece.now }
-        ensures line { IfNone result (self.new ≡ behind self.old piece.now) }
+        ensures line { self.new ≡ behind self.old piece.now }
     {
         let mut i = 0;
         while i < piece.len() {

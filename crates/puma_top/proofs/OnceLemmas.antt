@@ -1,38 +1,32 @@
 -- What stands in bytes that came in pieces.
-use Rattle.std.proofs.Common.{◌≡◌, ℕ, ◌+◌, ◌-◌, ◌<◌, ◌≤◌, inr, Bool, if◌then◌else◌, List, [], ◌++◌, length, take, drop, Option, None, Some, Result, Ok, Err, IfOk, IfSome, Fits, w64, refl, ap, sym, ◌∙◌, subst, arith, length-append, length-drop, length-take, min}
+use Rattle.std.proofs.Common.{◌≡◌, ℕ, ◌+◌, ◌-◌, ◌<◌, ◌≤◌, inr, Bool, if◌then◌else◌, List, [], ◌++◌, length, take, drop, Option, None, Some, Result, Ok, Err, IfOk, IfSome, IsSomeAnd, Fits, w64, refl, ap, sym, ◌∙◌, subst, arith, length-append, length-drop, length-take, min}
 use Rattle.std.proofs.Math.Seq.{take-add}
 use Rattle.std.proofs.lemmas.List.{append_assoc, append-nil, take-append-drop, take-append-le, take-take}
 use Rattle.rack_types.specs.declared.fault.Fault.{Fault}
 use Rattle.rack_types.specs.declared.fault.Fault.TheVariants.{F}
-use Rattle.rack_types.specs.Request.{Parts}
-use Rattle.rack_outside.specs.Told.{Appends}
+use Rattle.rack_types.specs.Env.{Environment}
+use Rattle.rack_types.specs.Request.{Parts, with_body}
+use Rattle.rack_types.specs.Sound.{IsSound}
+use Rattle.rack_outside.specs.Told.{Appends, Rose}
 use Rattle.rack_outside.specs.Source.{Gives, IsWhole}
 use Rattle.rack_outside.specs.declared.source.SourceRead.TheVariants as read
 use Rattle.message_framing.specs.declared.intake.Intake.{Intake}
 use Rattle.message_framing.specs.declared.intake.Feed.{Feed}
 use Rattle.message_framing.specs.declared.intake.Feed.TheVariants.{More, Whole, Refused}
-use Rattle.message_framing.specs.declared.intake.Standing.{Standing}
-use Rattle.message_framing.specs.declared.intake.Standing.TheVariants as at
 use Rattle.message_framing.specs.HeadText.{head_len, skip, lines_end}
 use Rattle.message_framing.specs.Request.{head_limit, Refusal, IsRequest, Begins, Wanting}
-use Rattle.message_framing.specs.Intake.{FedAt, Fed, IsRight, taken, FeedsTo}
-use Rattle.puma_top.specs.Reply.{hello_reply, fault_reply}
+use Rattle.message_framing.specs.Intake.{Fed, IsRight, taken, FeedsTo}
+use Rattle.puma_top.specs.Stack as stack
+use Rattle.puma_top.specs.Stack.{Endpoint}
+use Rattle.puma_top.specs.Reply.{endpoint_reply, fault_reply}
 use Rattle.puma_top.specs.Served.{request_reply}
-use Rattle.puma_top.specs.Once.{First, refused, request, wanting, Stands, Arrives, Admits, TakesIn, Sends, Ends}
+use Rattle.puma_top.specs.Once.{First, refused, request, wanting, Stands, piece_limit, Stops, Arrives, Admits, BreaksOff, TakesIn, Sends, Ends}
 use Rattle.puma_top.specs.declared.once.Came.{Came}
 use Rattle.puma_top.specs.declared.once.Came.TheVariants as came
 use Rattle.puma_top.specs.declared.status.Status.{Status}
 use Rattle.puma_top.specs.declared.status.Status.TheVariants as status
+use Rattle.message_framing.proofs.ShortLemmas.{waiting_short}
 use Rattle.message_framing.proofs.RequestLemmas.{wanting as open_wanting, begins_unique, refusal_unique, begins_not_refused, begins_whole, begins_stays}
-
--- where neither stands, few bytes came
-pub fed_within : (i : Intake) (b : List ℕ) → Fed i b → Wanting b → length b ≤ head_limit
-fed_within i b fed w = go i.standing fed
-  where
-    go : (s : Standing) → FedAt s i b → length b ≤ head_limit
-    go at.Open h = h.within
-    go (at.Whole r) h = absurd (w.0 (length b) r (begins_whole b r h))
-    go (at.Refused f) h = absurd (w.1 f h)
 
 empty : head_len [] ≡ None
 unfolding head_len skip lines_end
@@ -87,10 +81,13 @@ le_refl n = omega arith
 pub le_then : (a b c : ℕ) → a ≤ b → b ≤ c → a ≤ c
 le_then a b c first second = omega arith
 
-pub fits_small : (m : ℕ) → m ≤ 32768 → Fits w64 m
+pub rose_from : (before mid after : ℕ) → before ≤ mid → Rose mid after → Rose before after
+rose_from before mid after order rose = omega (arith, order, rose)
+
+pub fits_small : (m : ℕ) → m ≤ 1100000000 → Fits w64 m
 fits_small m small = omega arith
 
-pub falls : (count n : ℕ) → 0 < n → count + n ≤ 32768 → 32769 - (count + n) < 32769 - count
+pub falls : (count n : ℕ) → 0 < n → count + n ≤ 1100000000 → 1100000001 - (count + n) < 1100000001 - count
 falls count n some small = omega arith
 
 pub if_ok_at : {A E : Type 0} (P : A → Type 0) (r : Result A E) (x : A) → IfOk r P → r ≡ Ok x → P x
@@ -99,14 +96,30 @@ if_ok_at {A} {E} P r x h is = subst (λ (s : Result A E). IfOk s P) is h
 pub if_some_at : {A : Type 0} (P : A → Type 0) (o : Option A) (x : A) → IfSome o P → o ≡ Some x → P x
 if_some_at {A} P o x h is = subst (λ (s : Option A). IfSome s P) is h
 
+pub some_and_at : {A : Type 0} (P : A → Type 0) (o : Option A) (x : A) → IsSomeAnd o P → o ≡ Some x → P x
+some_and_at {A} P o x h is = subst (λ (s : Option A). IsSomeAnd s P) is h
+
+-- the rules of an environment rest on nothing of the body
+pub emptied_sound : (r : Parts) → IsSound r → IsSound (with_body [] r)
+emptied_sound r sound = record { method = sound.method; path = sound.path; length = sound.length }
+
 -- the source has ended while nothing stood
 pub ended : (intake : Intake) (count : ℕ) (old mid new input_mid input_new : Option (List ℕ)) → Reading intake count old mid
     → (new ≡ mid) × IsWhole mid input_mid → input_new ≡ input_mid → Arrives came.Nothing old new input_new
 ended intake count old mid new input_mid input_new r gives same = record {
   bytes = r.bytes;
   given = subst (λ (w : Option (List ℕ)). Appends old w r.bytes) (sym gives.0) r.given;
+  stops = record { before = r.bytes; piece = []; parts = sym (append-nil r.bytes); short = omega arith; wanting = r.wanting };
   stands = r.wanting;
   ends = λ xs ys is whole. gives.1 xs ys (sym gives.0 ∙ is) (sym same ∙ whole);
+}
+
+-- a read has failed while nothing stood
+pub breaks_off : (intake : Intake) (count : ℕ) (old mid new : Option (List ℕ)) → Reading intake count old mid → new ≡ mid → BreaksOff old new
+breaks_off intake count old mid new r same = record {
+  bytes = r.bytes;
+  given = subst (λ (w : Option (List ℕ)). Appends old w r.bytes) (sym same) r.given;
+  wanting = r.wanting;
 }
 
 -- the front of the room is what was read into it
@@ -121,16 +134,17 @@ pub record Feeds (intake next : Intake) (count n : ℕ) (answer : Feed) (old new
   pub piece : List ℕ
   pub some : 0 < n
   pub size : n ≡ length piece
+  pub short : length piece ≤ piece_limit
+  pub waits : Wanting bytes
   pub count_is : count ≡ length bytes
   pub given : Appends old new (bytes ++ piece)
   pub right : IsRight answer bytes piece
   pub fed : Fed next (taken answer bytes piece)
 
 pub feeds : (intake next : Intake) (count n : ℕ) (answer kind : Feed) (old mid new input : Option (List ℕ)) (room piece : List ℕ)
-    → Reading intake count old mid → Gives (read.Bytes n) input mid new room → piece ≡ take n room
+    → length room ≤ piece_limit → Reading intake count old mid → Gives (read.Bytes n) input mid new room → piece ≡ take n room
     → FeedsTo intake piece (Ok answer) next → answer ≡ kind → Feeds intake next count n kind old new
-feeds intake next count n answer kind old mid new input room piece r gives is feed same =
-    let answers : IsRight answer r.bytes piece × Fed next (taken answer r.bytes piece) = feed r.bytes r.fed in
+feeds intake next count n answer kind old mid new input room piece few r gives is feed same =
     let more : Appends mid new piece = subst (λ (w : List ℕ). Appends mid new w) (sym is) gives.2 in
     let long : length piece ≡ min n (length room) = ap length is ∙ length-take n room in
     record {
@@ -138,10 +152,12 @@ feeds intake next count n answer kind old mid new input room piece r gives is fe
       piece = piece;
       some = gives.0;
       size = omega (arith, long, gives.1);
+      short = omega (arith, long, few);
+      waits = r.wanting;
       count_is = r.size;
       given = appends_more old mid new r.bytes piece r.given more;
-      right = subst (λ (a : Feed). IsRight a r.bytes piece) same answers.0;
-      fed = subst (λ (a : Feed). Fed next (taken a r.bytes piece)) same answers.1;
+      right = subst (λ (a : Feed). IsRight a r.bytes piece) same (feed.right r.bytes r.fed);
+      fed = subst (λ (a : Feed). Fed next (taken a r.bytes piece)) same (feed.holds r.bytes r.fed);
     }
 
 pub feeds_more : (intake next : Intake) (count n : ℕ) (old new : Option (List ℕ)) → Feeds intake next count n More old new
@@ -155,10 +171,14 @@ feeds_more intake next count n old new f = record {
 }
 
 pub feeds_within : (intake next : Intake) (count n : ℕ) (old new : Option (List ℕ)) → Feeds intake next count n More old new
-    → count + n ≤ 32768
+    → count + n ≤ 1100000000
 feeds_within intake next count n old new f =
-    let few : length (f.bytes ++ f.piece) ≤ head_limit = fed_within next (f.bytes ++ f.piece) f.fed f.right in
+    let few : length (f.bytes ++ f.piece) ≤ 1100000000 = waiting_short next (f.bytes ++ f.piece) f.fed f.right in
     omega (arith, few, f.size, f.count_is, length-append f.bytes f.piece)
+
+-- reading stops with the piece in which something stands
+feeds_stops : (bytes piece : List ℕ) → length piece ≤ piece_limit → Wanting bytes → Stops (bytes ++ piece)
+feeds_stops bytes piece short waits = record { before = bytes; piece = piece; parts = refl; short = short; wanting = waits }
 
 -- the intake holds a whole request
 pub feeds_held : (intake next : Intake) (count n m : ℕ) (old new : Option (List ℕ)) → Feeds intake next count n (Whole m) old new
@@ -176,15 +196,17 @@ admitted intake next count n m result old new input before after f admits =
     begins = whole_begins f.bytes f.piece m f.right.1.0 f.right.1.1
 
     go : (a : Result Came Status) → Admits a f.right.1.0 → TakesIn a old new input before after
-    go (Ok came.Served) h = record {
+    go (Ok (came.Served env)) h = record {
       bytes = f.bytes ++ f.piece;
       given = f.given;
-      stands = (length (f.bytes ++ take m f.piece), f.right.1.0, begins, h);
+      stops = feeds_stops f.bytes f.piece f.short f.waits;
+      stands = (length (f.bytes ++ take m f.piece), f.right.1.0, begins, h.0, h.1);
       ends = tt;
     }
     go (Ok came.Unserved) h = record {
       bytes = f.bytes ++ f.piece;
       given = f.given;
+      stops = feeds_stops f.bytes f.piece f.short f.waits;
       stands = (length (f.bytes ++ take m f.piece), f.right.1.0, begins, h);
       ends = tt;
     }
@@ -207,66 +229,77 @@ pub feeds_refused : (intake next : Intake) (count n : ℕ) (fault : Fault) (old 
 feeds_refused intake next count n fault old new input f = record {
   bytes = f.bytes ++ f.piece;
   given = f.given;
+  stops = feeds_stops f.bytes f.piece f.short f.waits;
   stands = f.right;
   ends = tt;
 }
 
 -- the reply to what stands
-pub record Replies (kind body bytes text : List ℕ) : Type 0 where
-  pub first : First kind body bytes text
+pub record Replies (endpoint : Endpoint) (bytes text : List ℕ) : Type 0 where
+  pub first : First endpoint bytes text
   pub some : text ≡ [] → ⊥
 
-pub replies_served : (kind body bytes text : List ℕ) → Stands came.Served bytes → text ≡ hello_reply kind body → Replies kind body bytes text
-replies_served kind body bytes text stands is = record {
-  first = request stands.0 stands.1 stands.2
-      (is ∙ ap (λ (b : Bool). if b then hello_reply kind body else fault_reply (F 0)) (sym stands.3));
-  some = λ none. (let clash : hello_reply kind body ≡ [] = sym is ∙ none in cc);
-}
+-- no reply of a stack is empty
+reply_not_empty : (endpoint : Endpoint) (r : Parts) → endpoint_reply endpoint r ≡ [] → ⊥
+reply_not_empty (stack.text kind body) r none = cc
+reply_not_empty stack.echo r none = cc
 
-pub replies_unserved : (kind body bytes text : List ℕ) → Stands came.Unserved bytes → text ≡ fault_reply (F 0) → Replies kind body bytes text
-replies_unserved kind body bytes text stands is = record {
+-- the reply to a request that is served, whose body the environment holds
+pub replies_served : (endpoint : Endpoint) (bytes text : List ℕ) (env : Environment) → Stands (came.Served env) bytes
+    → ((r : Parts) → env.input.bytes ≡ r.body → text ≡ endpoint_reply endpoint r) → Replies endpoint bytes text
+replies_served endpoint bytes text env stands replies =
+    let is : text ≡ endpoint_reply endpoint stands.1 = replies stands.1 (ap (λ i. i.bytes) stands.4.input) in
+    record {
+      first = request stands.0 stands.1 stands.2
+          (is ∙ ap (λ (b : Bool). if b then endpoint_reply endpoint stands.1 else fault_reply (F 0)) (sym stands.3));
+      some = λ none. reply_not_empty endpoint stands.1 (sym is ∙ none);
+    }
+
+pub replies_unserved : (endpoint : Endpoint) (bytes text : List ℕ) → Stands came.Unserved bytes → text ≡ fault_reply (F 0) → Replies endpoint bytes text
+replies_unserved endpoint bytes text stands is = record {
   first = request stands.0 stands.1 stands.2
-      (is ∙ ap (λ (b : Bool). if b then hello_reply kind body else fault_reply (F 0)) (sym stands.3));
+      (is ∙ ap (λ (b : Bool). if b then endpoint_reply endpoint stands.1 else fault_reply (F 0)) (sym stands.3));
   some = λ none. (let clash : fault_reply (F 0) ≡ [] = sym is ∙ none in cc);
 }
 
-pub replies_fault : (kind body bytes text : List ℕ) (fault : Fault) → Refusal bytes fault → text ≡ fault_reply fault → Replies kind body bytes text
-replies_fault kind body bytes text fault stands is = record {
+pub replies_fault : (endpoint : Endpoint) (bytes text : List ℕ) (fault : Fault) → Refusal bytes fault → text ≡ fault_reply fault → Replies endpoint bytes text
+replies_fault endpoint bytes text fault stands is = record {
   first = refused fault stands is;
   some = λ none. (let clash : fault_reply fault ≡ [] = sym is ∙ none in cc);
 }
 
 -- the reply is sent
-pub sent : (s : Status) (kind body bytes text : List ℕ) (given_old given_new input : Option (List ℕ)) (reads reads_then : ℕ)
+pub sent : (s : Status) (endpoint : Endpoint) (bytes text : List ℕ) (given_old given_new input : Option (List ℕ)) (reads reads_then : ℕ)
     (written_old written_new : Option (List ℕ)) (writes writes_then : ℕ)
-    → Appends given_old given_new bytes → Replies kind body bytes text → Sends s text written_old written_new writes writes_then
-    → Ends s kind body given_old given_new input reads reads_then written_old written_new writes writes_then
-sent status.Done kind body bytes text given_old given_new input reads reads_then written_old written_new writes writes_then given reply h = record {
+    → Appends given_old given_new bytes → Stops bytes → Replies endpoint bytes text → Sends s text written_old written_new writes writes_then
+    → Ends s endpoint given_old given_new input reads reads_then written_old written_new writes writes_then
+sent status.Done endpoint bytes text given_old given_new input reads reads_then written_old written_new writes writes_then given stops reply h = record {
   bytes = bytes;
   text = text;
   given = given;
   written = h;
   first = reply.first;
+  stops = stops;
   ends = λ none. absurd (reply.some none);
 }
-sent status.NoMemory kind body bytes text given_old given_new input reads reads_then written_old written_new writes writes_then given reply h =
-    inr (record { bytes = bytes; text = text; given = given; first = reply.first; part = h })
-sent status.Usage kind body bytes text given_old given_new input reads reads_then written_old written_new writes writes_then given reply h = absurd h
-sent (status.File why) kind body bytes text given_old given_new input reads reads_then written_old written_new writes writes_then given reply h = absurd h
-sent (status.Stack line rule) kind body bytes text given_old given_new input reads reads_then written_old written_new writes writes_then given reply h = absurd h
-sent status.SourceFault kind body bytes text given_old given_new input reads reads_then written_old written_new writes writes_then given reply h = absurd h
-sent status.SinkFault kind body bytes text given_old given_new input reads reads_then written_old written_new writes writes_then given reply h =
-    (h.1, record { bytes = bytes; text = text; given = given; first = reply.first; part = h.0 })
+sent status.NoMemory endpoint bytes text given_old given_new input reads reads_then written_old written_new writes writes_then given stops reply h =
+    inr (record { bytes = bytes; text = text; given = given; first = reply.first; stops = stops; part = h })
+sent status.Usage endpoint bytes text given_old given_new input reads reads_then written_old written_new writes writes_then given stops reply h = absurd h
+sent (status.File why) endpoint bytes text given_old given_new input reads reads_then written_old written_new writes writes_then given stops reply h = absurd h
+sent (status.Stack line rule) endpoint bytes text given_old given_new input reads reads_then written_old written_new writes writes_then given stops reply h = absurd h
+sent status.SourceFault endpoint bytes text given_old given_new input reads reads_then written_old written_new writes writes_then given stops reply h = absurd h
+sent status.SinkFault endpoint bytes text given_old given_new input reads reads_then written_old written_new writes writes_then given stops reply h =
+    (h.1, record { bytes = bytes; text = text; given = given; first = reply.first; stops = stops; part = h.0 })
 
 -- what is written is determined by what came
-pub one_first : (kind body bytes text other : List ℕ) → First kind body bytes text → First kind body bytes other → text ≡ other
-one_first kind body bytes text other (refused f a x) (refused g b y) = x ∙ ap fault_reply (refusal_unique bytes f g a b) ∙ sym y
-one_first kind body bytes text other (refused f a x) (request n r b y) = absurd (begins_not_refused bytes n r f b a)
-one_first kind body bytes text other (refused f a x) (wanting b y) = absurd (b.1 f a)
-one_first kind body bytes text other (request n r a x) (refused f b y) = absurd (begins_not_refused bytes n r f a b)
-one_first kind body bytes text other (request n r a x) (request m q b y) =
-    x ∙ ap (request_reply kind body) (begins_unique bytes n m r q a b).1 ∙ sym y
-one_first kind body bytes text other (request n r a x) (wanting b y) = absurd (b.0 n r a)
-one_first kind body bytes text other (wanting a x) (refused f b y) = absurd (a.1 f b)
-one_first kind body bytes text other (wanting a x) (request n r b y) = absurd (a.0 n r b)
-one_first kind body bytes text other (wanting a x) (wanting b y) = x ∙ sym y
+pub one_first : (endpoint : Endpoint) (bytes text other : List ℕ) → First endpoint bytes text → First endpoint bytes other → text ≡ other
+one_first endpoint bytes text other (refused f a x) (refused g b y) = x ∙ ap fault_reply (refusal_unique bytes f g a b) ∙ sym y
+one_first endpoint bytes text other (refused f a x) (request n r b y) = absurd (begins_not_refused bytes n r f b a)
+one_first endpoint bytes text other (refused f a x) (wanting b y) = absurd (b.1 f a)
+one_first endpoint bytes text other (request n r a x) (refused f b y) = absurd (begins_not_refused bytes n r f a b)
+one_first endpoint bytes text other (request n r a x) (request m q b y) =
+    x ∙ ap (request_reply endpoint) (begins_unique bytes n m r q a b).1 ∙ sym y
+one_first endpoint bytes text other (request n r a x) (wanting b y) = absurd (b.0 n r a)
+one_first endpoint bytes text other (wanting a x) (refused f b y) = absurd (a.1 f b)
+one_first endpoint bytes text other (wanting a x) (request n r b y) = absurd (a.0 n r b)
+one_first endpoint bytes text other (wanting a x) (wanting b y) = x ∙ sym y

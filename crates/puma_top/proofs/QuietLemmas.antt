@@ -5,33 +5,33 @@ use Rattle.rack_outside.specs.declared.files.FileRead.{FileRead}
 use Rattle.rack_outside.specs.declared.files.FileRead.TheVariants as read
 use Rattle.rack_outside.specs.Told.{Appends}
 use Rattle.rack_outside.specs.Files.{Shelf}
-use Rattle.puma_top.specs.Stack.{IsHello, IsNoHello}
+use Rattle.puma_top.specs.Stack.{Endpoint, IsStack, IsNoStack}
 use Rattle.puma_top.specs.Once.{Ends}
 use Rattle.puma_top.specs.Status.{UnlessNoMemory, OnUsage}
-use Rattle.puma_top.specs.Quiet.{Reads, ReadNamed, IsStack, Ran}
+use Rattle.puma_top.specs.Quiet.{Reads, ReadNamed, IsGoodStack, Ran}
 use Rattle.puma_top.specs.declared.status.FileWhy.TheVariants as why
 use Rattle.puma_top.specs.declared.status.Status.{Status}
 use Rattle.puma_top.specs.declared.status.Status.TheVariants as status
 
 -- a connection that was answered by a stack
-pub served : (s : Status) (file : Option (List ℕ)) (kind body : List ℕ) (held holds : Option Shelf) (noted notes : Option Reads) (fails fails_then : ℕ)
+pub served : (s : Status) (file : Option (List ℕ)) (endpoint : Endpoint) (held holds : Option Shelf) (noted notes : Option Reads) (fails fails_then : ℕ)
     (given_old given_new input : Option (List ℕ)) (reads reads_then : ℕ) (written_old written_new : Option (List ℕ)) (writes writes_then : ℕ)
-    → IsStack file kind body held holds noted notes
-    → Ends s kind body given_old given_new input reads reads_then written_old written_new writes writes_then
+    → IsGoodStack file endpoint held holds noted notes
+    → Ends s endpoint given_old given_new input reads reads_then written_old written_new writes writes_then
     → Ran s file held holds noted notes fails fails_then given_old given_new input reads reads_then written_old written_new writes writes_then
-served status.Done file kind body held holds noted notes fails fails_then given_old given_new input reads reads_then written_old written_new writes writes_then stack h =
-    record { kind = kind; body = body; stack = stack; answered = h }
-served status.NoMemory file kind body held holds noted notes fails fails_then given_old given_new input reads reads_then written_old written_new writes writes_then stack (inl h) =
+served status.Done file endpoint held holds noted notes fails fails_then given_old given_new input reads reads_then written_old written_new writes writes_then stack h =
+    record { endpoint = endpoint; stack = stack; answered = h }
+served status.NoMemory file endpoint held holds noted notes fails fails_then given_old given_new input reads reads_then written_old written_new writes writes_then stack (inl h) =
     ((stack.was.name, stack.was.named), inl h)
-served status.NoMemory file kind body held holds noted notes fails fails_then given_old given_new input reads reads_then written_old written_new writes writes_then stack (inr h) =
-    ((stack.was.name, stack.was.named), inr (record { kind = kind; body = body; stack = stack; answered = h }))
-served status.Usage file kind body held holds noted notes fails fails_then given_old given_new input reads reads_then written_old written_new writes writes_then stack h = absurd h
-served (status.File y) file kind body held holds noted notes fails fails_then given_old given_new input reads reads_then written_old written_new writes writes_then stack h = absurd h
-served (status.Stack line rule) file kind body held holds noted notes fails fails_then given_old given_new input reads reads_then written_old written_new writes writes_then stack h = absurd h
-served status.SourceFault file kind body held holds noted notes fails fails_then given_old given_new input reads reads_then written_old written_new writes writes_then stack h =
-    ((kind, body, stack), h.0, h.1)
-served status.SinkFault file kind body held holds noted notes fails fails_then given_old given_new input reads reads_then written_old written_new writes writes_then stack h =
-    (record { kind = kind; body = body; stack = stack; answered = h.1 }, h.0)
+served status.NoMemory file endpoint held holds noted notes fails fails_then given_old given_new input reads reads_then written_old written_new writes writes_then stack (inr h) =
+    ((stack.was.name, stack.was.named), inr (record { endpoint = endpoint; stack = stack; answered = h }))
+served status.Usage file endpoint held holds noted notes fails fails_then given_old given_new input reads reads_then written_old written_new writes writes_then stack h = absurd h
+served (status.File y) file endpoint held holds noted notes fails fails_then given_old given_new input reads reads_then written_old written_new writes writes_then stack h = absurd h
+served (status.Stack line rule) file endpoint held holds noted notes fails fails_then given_old given_new input reads reads_then written_old written_new writes writes_then stack h = absurd h
+served status.SourceFault file endpoint held holds noted notes fails fails_then given_old given_new input reads reads_then written_old written_new writes writes_then stack h =
+    ((endpoint, stack), h.0, h.1, h.2)
+served status.SinkFault file endpoint held holds noted notes fails fails_then given_old given_new input reads reads_then written_old written_new writes writes_then stack h =
+    (record { endpoint = endpoint; stack = stack; answered = h.1 }, h.0)
 
 -- the last read that was noted, told twice
 one_note : (noted notes : Option Reads) (before : Reads) (x y : List ℕ × FileRead) → noted ≡ Some before → Appends noted notes (x ∷ [])
@@ -45,12 +45,12 @@ one_note noted notes before x y old adds new =
 same_text : (t u : List ℕ) → read.Text t ≡ read.Text u → t ≡ u
 same_text t u same = cc
 
-no_stack_here : (file : Option (List ℕ)) (kind body : List ℕ) (held holds : Option Shelf) (noted notes : Option Reads) (name text : List ℕ) (before : Reads)
-    → IsStack file kind body held holds noted notes → noted ≡ Some before → notes ≡ Some (before ++ ((name, read.Text text) ∷ [])) → IsNoHello text → ⊥
-no_stack_here file kind body held holds noted notes name text before stack old new bad =
+no_stack_here : (file : Option (List ℕ)) (endpoint : Endpoint) (held holds : Option Shelf) (noted notes : Option Reads) (name text : List ℕ) (before : Reads)
+    → IsGoodStack file endpoint held holds noted notes → noted ≡ Some before → notes ≡ Some (before ++ ((name, read.Text text) ∷ [])) → IsNoStack text → ⊥
+no_stack_here file endpoint held holds noted notes name text before stack old new bad =
     let answers : read.Text stack.text ≡ read.Text text =
     ap (λ (p : List ℕ × FileRead). p.1) (one_note noted notes before (stack.was.name, read.Text stack.text) (name, read.Text text) old stack.was.was.noting new) in
-    bad kind body (subst (λ (w : List ℕ). IsHello w kind body) (same_text stack.text text answers) stack.good)
+    bad endpoint (subst (λ (w : List ℕ). IsStack w endpoint) (same_text stack.text text answers) stack.good)
 
 other_answer : (file : Option (List ℕ)) (answer : FileRead) (held holds : Option Shelf) (noted notes : Option Reads) (name text : List ℕ) (before : Reads)
     → ReadNamed file answer held holds noted notes → noted ≡ Some before → notes ≡ Some (before ++ ((name, read.Text text) ∷ [])) → answer ≡ read.Text text
@@ -69,10 +69,10 @@ pub bad_stack : (s : Status) (file : Option (List ℕ)) (held holds : Option She
     (given_old given_new input : Option (List ℕ)) (reads reads_then : ℕ) (written_old written_new : Option (List ℕ)) (writes writes_then : ℕ)
     → Ran s file held holds noted notes fails fails_then given_old given_new input reads reads_then written_old written_new writes writes_then
     → OnUsage s (notes ≡ noted)
-    → (name text : List ℕ) (before : Reads) → noted ≡ Some before → notes ≡ Some (before ++ ((name, read.Text text) ∷ [])) → IsNoHello text
+    → (name text : List ℕ) (before : Reads) → noted ≡ Some before → notes ≡ Some (before ++ ((name, read.Text text) ∷ [])) → IsNoStack text
     → UnlessNoMemory s (s ≡ status.Stack 1 0)
 bad_stack status.Done file held holds noted notes fails fails_then given_old given_new input reads reads_then written_old written_new writes writes_then ran same name text before old new bad =
-    absurd (no_stack_here file ran.kind ran.body held holds noted notes name text before ran.stack old new bad)
+    absurd (no_stack_here file ran.endpoint held holds noted notes name text before ran.stack old new bad)
 bad_stack status.NoMemory file held holds noted notes fails fails_then given_old given_new input reads reads_then written_old written_new writes writes_then ran same name text before old new bad = tt
 bad_stack status.Usage file held holds noted notes fails fails_then given_old given_new input reads reads_then written_old written_new writes writes_then ran same name text before old new bad =
     absurd (nothing_noted noted notes before (name, read.Text text) same old new)
@@ -88,9 +88,9 @@ bad_stack (status.File why.Failed) file held holds noted notes fails fails_then 
 bad_stack (status.Stack line rule) file held holds noted notes fails fails_then given_old given_new input reads reads_then written_old written_new writes writes_then ran same name text before old new bad =
     ap (λ n. status.Stack n rule) ran.0 ∙ ap (λ n. status.Stack 1 n) ran.1
 bad_stack status.SourceFault file held holds noted notes fails fails_then given_old given_new input reads reads_then written_old written_new writes writes_then ran same name text before old new bad =
-    absurd (no_stack_here file ran.0.0 ran.0.1 held holds noted notes name text before ran.0.2 old new bad)
+    absurd (no_stack_here file ran.0.0 held holds noted notes name text before ran.0.1 old new bad)
 bad_stack status.SinkFault file held holds noted notes fails fails_then given_old given_new input reads reads_then written_old written_new writes writes_then ran same name text before old new bad =
-    absurd (no_stack_here file ran.0.kind ran.0.body held holds noted notes name text before ran.0.stack old new bad)
+    absurd (no_stack_here file ran.0.endpoint held holds noted notes name text before ran.0.stack old new bad)
 
 -- a fact that follows from another, where the words are no command
 pub on_usage : (P Q : Type 0) (s : Status) → (P → Q) → OnUsage s P → OnUsage s Q

@@ -4,8 +4,8 @@ use Rattle.rack_outside.specs.declared.files.FileRead.{FileRead}
 use Rattle.rack_outside.specs.declared.files.FileRead.TheVariants as read
 use Rattle.rack_outside.specs.Told.{Rose}
 use Rattle.rack_outside.specs.Files.{Shelf, Answers, Notes}
-use Rattle.puma_top.specs.Stack.{stack_limit, IsHello, IsNoHello}
-use Rattle.puma_top.specs.Once.{Answered, AnsweredInPart}
+use Rattle.puma_top.specs.Stack.{stack_limit, Endpoint, IsStack, IsNoStack}
+use Rattle.puma_top.specs.Once.{Answered, AnsweredInPart, BreaksOff}
 use Rattle.puma_top.specs.declared.status.FileWhy.TheVariants.{Absent, Long, Failed}
 use Rattle.puma_top.specs.declared.status.Status.{Status}
 use Rattle.puma_top.specs.declared.status.Status.TheVariants.{Done, NoMemory, Usage, File, Stack, SourceFault, SinkFault}
@@ -43,13 +43,13 @@ Opens (Err SinkFault) name held holds noted notes before after = ⊥
 pub record IsBadStack (file : Option (List ℕ)) (held holds : Option Shelf) (noted notes : Option Reads) : Type 0 where
   pub text : List ℕ
   pub was : ReadNamed file (read.Text text) held holds noted notes
-  pub bad : IsNoHello text
+  pub bad : IsNoStack text
 
--- the file that the words name is the stack with this content type and this body
-pub record IsStack (file : Option (List ℕ)) (kind body : List ℕ) (held holds : Option Shelf) (noted notes : Option Reads) : Type 0 where
+-- the file that the words name is the stack that answers so
+pub record IsGoodStack (file : Option (List ℕ)) (endpoint : Endpoint) (held holds : Option Shelf) (noted notes : Option Reads) : Type 0 where
   pub text : List ℕ
   pub was : ReadNamed file (read.Text text) held holds noted notes
-  pub good : IsHello text kind body
+  pub good : IsStack text endpoint
 
 -- the words name a file that is held, and its next text is a stack within the limit
 pub record IsReady (file : Option (List ℕ)) (held : Option Shelf) : Type 0 where
@@ -57,29 +57,26 @@ pub record IsReady (file : Option (List ℕ)) (held : Option Shelf) : Type 0 whe
   pub shelf : Shelf
   pub text : List ℕ
   pub more : List (List ℕ)
-  pub kind : List ℕ
-  pub body : List ℕ
+  pub endpoint : Endpoint
   pub named : file ≡ Some name
   pub tells : held ≡ Some shelf
   pub next : shelf name ≡ text ∷ more
   pub fits : length text ≤ stack_limit
-  pub good : IsHello text kind body
+  pub good : IsStack text endpoint
 
 -- the connection was answered by the stack that the words name
 pub record Served (file : Option (List ℕ)) (held holds : Option Shelf) (noted notes : Option Reads)
     (given_old given_new input written_old written_new : Option (List ℕ)) : Type 0 where
-  pub kind : List ℕ
-  pub body : List ℕ
-  pub stack : IsStack file kind body held holds noted notes
-  pub answered : Answered kind body given_old given_new input written_old written_new
+  pub endpoint : Endpoint
+  pub stack : IsGoodStack file endpoint held holds noted notes
+  pub answered : Answered endpoint given_old given_new input written_old written_new
 
 -- the same, with a part of the answer written, and not all of it
 pub record ServedInPart (file : Option (List ℕ)) (held holds : Option Shelf) (noted notes : Option Reads)
     (given_old given_new written_old written_new : Option (List ℕ)) : Type 0 where
-  pub kind : List ℕ
-  pub body : List ℕ
-  pub stack : IsStack file kind body held holds noted notes
-  pub answered : AnsweredInPart kind body given_old given_new written_old written_new
+  pub endpoint : Endpoint
+  pub stack : IsGoodStack file endpoint held holds noted notes
+  pub answered : AnsweredInPart endpoint given_old given_new written_old written_new
 
 -- what is known of a command that ended, by its status
 abbrev pub Ran : Status → Option (List ℕ) → Option Shelf → Option Shelf → Option Reads → Option Reads → ℕ → ℕ
@@ -100,6 +97,6 @@ Ran (File Failed) file held holds noted notes fails fails_then given_old given_n
 Ran (Stack line rule) file held holds noted notes fails fails_then given_old given_new input reads reads_then written_old written_new writes writes_then =
     (line ≡ 1) × (rule ≡ 0) × IsBadStack file held holds noted notes
 Ran SourceFault file held holds noted notes fails fails_then given_old given_new input reads reads_then written_old written_new writes writes_then =
-    ((kind body : List ℕ) × IsStack file kind body held holds noted notes) × Rose reads reads_then × (written_new ≡ written_old)
+    ((endpoint : Endpoint) × IsGoodStack file endpoint held holds noted notes) × BreaksOff given_old given_new × Rose reads reads_then × (written_new ≡ written_old)
 Ran SinkFault file held holds noted notes fails fails_then given_old given_new input reads reads_then written_old written_new writes writes_then =
     ServedInPart file held holds noted notes given_old given_new written_old written_new × Rose writes writes_then

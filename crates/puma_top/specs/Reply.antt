@@ -3,12 +3,14 @@ use Rattle.std.specs.Prelude.{ℕ, ◌==◌, ◌||◌, if◌then◌else◌, List
 use Rattle.std.specs.Fmt.{decimal}
 use Rattle.rack_types.specs.declared.fault.Fault.{Fault}
 use Rattle.rack_types.specs.declared.fault.Fault.TheVariants.{F, T1}
+use Rattle.rack_types.specs.Request.{Parts}
+use Rattle.puma_top.specs.Stack.{Endpoint, text, echo}
 
 -- the end of a line
 abbrev pub crlf : List ℕ
 crlf = 13 ∷ 10 ∷ []
 
--- the reason behind a status, of those that are written today
+-- the reason behind a status, of those that this server knows
 abbrev pub reason : ℕ → List ℕ
 reason status =
     if status == 200 then codes "OK"
@@ -27,13 +29,18 @@ status_line status rest = codes "HTTP/1.1 " ++ (decimal status ++ (codes " " ++ 
 abbrev pub header : List ℕ → List ℕ → List ℕ → List ℕ
 header name value rest = name ++ (codes ": " ++ (value ++ (crlf ++ rest)))
 
--- the reply of a stack that answers 200 with this content type and this body
-abbrev pub hello_reply : List ℕ → List ℕ → List ℕ
-hello_reply kind body =
+-- the reply 200 with this content type and this body
+abbrev pub text_reply : List ℕ → List ℕ → List ℕ
+text_reply kind body =
     status_line 200
     (header (codes "content-type") kind
     (header (codes "content-length") (decimal (length body))
     (crlf ++ body)))
+
+-- the reply of a stack to a request
+abbrev pub endpoint_reply : Endpoint → Parts → List ℕ
+endpoint_reply (text kind body) r = text_reply kind body
+endpoint_reply echo r = text_reply (codes "text/plain") r.body
 
 -- the status of a refusal: this project's own table
 abbrev pub refusal_status : ℕ → ℕ

@@ -7,7 +7,8 @@ use Rattle.rack_types.specs.declared.fault.Fault.TheVariants.{F}
 use Rattle.rack_types.specs.declared.limits.Version.{Version}
 use Rattle.rack_types.specs.declared.limits.Version.TheVariants.{Http10, Http11}
 use Rattle.rack_types.specs.declared.peer.Local.{Local}
-use Rattle.puma_top.specs.Reply.{hello_reply, fault_reply}
+use Rattle.puma_top.specs.Stack.{Endpoint}
+use Rattle.puma_top.specs.Reply.{endpoint_reply, fault_reply}
 
 -- by the version, the method and whether the connection may go on behind the request
 abbrev pub is_served_by : Version → List ℕ → Bool → Bool
@@ -19,8 +20,8 @@ abbrev pub is_served : Parts → Bool
 is_served r = is_served_by r.version r.method (persists_by r.version (values_of (codes "connection") r.fields))
 
 -- what is written for a request
-abbrev pub request_reply : List ℕ → List ℕ → Parts → List ℕ
-request_reply kind body r = if is_served r then hello_reply kind body else fault_reply (F 0)
+abbrev pub request_reply : Endpoint → Parts → List ℕ
+request_reply endpoint r = if is_served r then endpoint_reply endpoint r else fault_reply (F 0)
 
 -- whom the requests of one connection come from
 abbrev pub once_peer : List ℕ

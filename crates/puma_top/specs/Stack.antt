@@ -1,6 +1,8 @@
 -- The stack file.
-use Rattle.std.specs.Prelude.{◌≡◌, ◌≢◌, ℕ, ◌⊎◌, Bool, true, ◌&&◌, not, ◌==◌, nat_le, nat_lt, List, [], ◌∷◌, ◌++◌, length, codes}
+use Rattle.std.specs.Prelude.{◌≡◌, ◌≢◌, ℕ, ◌⊎◌, Bool, true, ◌&&◌, not, ◌==◌, nat_le, nat_lt, List, [], ◌∷◌, ◌++◌, length, codes, ⊤}
 use Rattle.std.specs.List.{list_all}
+use Rattle.puma_top.specs.declared.stack.Stack.{Stack}
+use Rattle.puma_top.specs.declared.stack.Stack.TheVariants.{Text, Echo}
 
 -- the bytes that a stack file may have
 abbrev pub stack_limit : ℕ
@@ -14,20 +16,34 @@ is_word_byte b = nat_le 33 b && nat_le b 126 && not (b == 92)
 abbrev pub is_word : List ℕ → Bool
 is_word word = nat_lt 0 (length word) && list_all is_word_byte word
 
--- the line of a stack that answers 200 with this content type and this body: five words, one space
--- between each two
-abbrev pub hello_line : List ℕ → List ℕ → List ℕ
-hello_line kind body = codes "run text 200 " ++ (kind ++ (32 ∷ body))
+-- what a stack answers to each request
+pub data Endpoint : Type 0 where
+  text : List ℕ → List ℕ → Endpoint  -- 200, with this content type and this body
+  echo : Endpoint  -- 200, `text/plain`, with the request's body
 
--- the text is that line, with at most one line feed behind it
-abbrev pub IsHello : List ℕ → List ℕ → List ℕ → Type 0
-IsHello text kind body =
-    (is_word kind ≡ true) × (is_word body ≡ true)
-    × ((text ≡ hello_line kind body) ⊎ (text ≡ hello_line kind (body ++ (10 ∷ []))))
+-- the line of a stack: its words, one space between each two
+abbrev pub stack_line : Endpoint → List ℕ
+stack_line (text kind body) = codes "run text 200 " ++ (kind ++ (32 ∷ body))
+stack_line echo = codes "run echo"
 
--- the text is no such line
-abbrev pub IsNoHello : List ℕ → Type 0
-IsNoHello text = (kind body : List ℕ) → ¬ (IsHello text kind body)
+-- what the line lets the file choose are words
+abbrev pub HasWords : Endpoint → Type 0
+HasWords (text kind body) = (is_word kind ≡ true) × (is_word body ≡ true)
+HasWords echo = ⊤
+
+-- the file's text is the line of this stack, with at most one line feed behind it
+abbrev pub IsStack : List ℕ → Endpoint → Type 0
+IsStack file endpoint =
+    HasWords endpoint × ((file ≡ stack_line endpoint) ⊎ (file ≡ stack_line endpoint ++ (10 ∷ [])))
+
+-- the file's text is no such line
+abbrev pub IsNoStack : List ℕ → Type 0
+IsNoStack file = (endpoint : Endpoint) → ¬ (IsStack file endpoint)
+
+-- what the code's stack answers
+abbrev pub endpoint_of : Stack → Endpoint
+endpoint_of (Text kind body) = text kind.now body.now
+endpoint_of Echo = echo
 
 -- the byte is a space
 abbrev pub is_space : ℕ → Bool
@@ -39,9 +55,9 @@ has_no_space bytes = list_all (λ b. not (is_space b)) bytes
 
 -- the bytes before the first space, and those behind it
 abbrev pub SplitsAtSpace : List ℕ → List ℕ → List ℕ → Type 0
-SplitsAtSpace text front back = (text ≡ front ++ (32 ∷ back)) × (has_no_space front ≡ true)
+SplitsAtSpace bytes front back = (bytes ≡ front ++ (32 ∷ back)) × (has_no_space front ≡ true)
 
--- the text without the line feed at its end, if one is there
+-- the bytes without the line feed at their end, if one is there
 abbrev pub DropsFeed : List ℕ → List ℕ → Type 0
-DropsFeed text rest =
-    (text ≡ rest ++ (10 ∷ [])) ⊎ ((text ≡ rest) × ((front : List ℕ) → text ≢ front ++ (10 ∷ [])))
+DropsFeed bytes rest =
+    (bytes ≡ rest ++ (10 ∷ [])) ⊎ ((bytes ≡ rest) × ((front : List ℕ) → bytes ≢ front ++ (10 ∷ [])))

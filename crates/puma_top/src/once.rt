@@ -3,25 +3,27 @@ ghost use Rattle.std.specs.Prelude.{◌≡◌, ℕ, List, IfOk, vec_len};
 ghost use Rattle.rack_types.specs.Request.{Parts};
 ghost use Rattle.message_framing.specs.Intake.{Fed};
 ghost use Rattle.message_framing.specs.Request.{IsRequest};
+ghost use Rattle.rack_outside.specs.Source.{IsPrefix};
+ghost use Rattle.puma_top.specs.Stack.{endpoint_of};
 ghost use Rattle.puma_top.specs.Once.{Ends, Admits, TakesIn, Sends};
 
 use crate::Status;
-use crate::reply::{fault_reply, hello_reply};
+use crate::reply::{endpoint_reply, fault_reply};
 use crate::served::{environment, is_served};
-use crate::stack::Hello;
+use crate::stack::Stack;
 use message_framing::{Feed, Intake};
 use rack_outside::{Sink, SinkWrite, Source, SourceRead};
-use rack_types::{Fault, Limits, NoMemory};
+use rack_types::{Env, Fault, Limits, NoMemory};
 use std::alloc::Global;
 
 // The bytes that one read may give.
 const PIECE: usize = 16_384;
 
 /// What came first.
-#[derive(Clone, Copy)]
+#[derive(Drop)]
 pub(crate) enum Came {
-    /// A whole request that the stack answers.
-    Served,
+    /// A whole request that the stack answers, as its environment, whose input is its body.
+    Served(Env),
     /// A whole request whose reply is not built yet.
     Unserved,
     /// Bytes that are refused.
@@ -33,20 +35,22 @@ pub(crate) enum Came {
 /// Reads until a request or a refusal stands, or to the input's end, and writes the one reply to it.
 pub(crate) fn once<S: Source, K: Sink>(
     alloc: Global,
-    hello: Hello<'_>,
+    stack: Stack<'_>,
     src: &mut S,
     out: &mut K,
 ) -> Status
-    ensures { Ends result hello.entry.kind.now hello.entry.body.now
+    ensures ends { Ends result (endpoint_of stack.entry)
         (S.given src.old) (S.given src.new) (S.input src.new) (S.faults src.old) (S.faults src.new)
         (K.written out.old) (K.written out.new) (K.faults out.old) (K.faults out.new) }
+    ensures same { S.input src.new ≡ S.input src.old }
+    ensures prefix { IsPrefix (S.given src.old) (S.input src.old) → IsPrefix (S.given src.new) (S.input src.new) }
 {
     let came = match take_in(alloc, src) {
         Ok(came) => came,
         Err(status) => return status,
     };
     let reply = match came {
-        Came::Served => hello_reply(alloc, hello),
+        Came::Served(mut env) => endpoint_reply(alloc, stack, env.input().all()),
         Came::Unserved => fault_reply(alloc, Fault::F(0)),
         Came::Refused(fault) => fault_reply(alloc, fault),
         Came::Nothing => return Status::Done,
@@ -59,7 +63,9 @@ pub(crate) fn once<S: Source, K: Sink>(
 
 // Reads until something stands. The pieces lie in one room, which is made once.
 fn take_in<S: Source>(alloc: Global, src: &mut S) -> Result<Came, Status>
-    ensures { TakesIn result (S.given src.old) (S.given src.new) (S.input src.new) (S.faults src.old) (S.faults src.new) }
+    ensures takes { TakesIn result (S.given src.old) (S.given src.new) (S.input src.new) (S.faults src.old) (S.faults src.new) }
+    ensures same { S.input src.new ≡ S.input src.old }
+    ensures prefix { IsPrefix (S.given src.old) (S.input src.old) → IsPrefix (S.given src.new) (S.input src.new) }
 {
     let Ok(mut intake) = Intake::new(alloc, Limits::stock()) else {
         return Err(Status::NoMemory);
@@ -67,7 +73,7 @@ fn take_in<S: Source>(alloc: Global, src: &mut S) -> Result<Came, Status>
     let Ok(mut room) = room_for_pieces(alloc) else {
         return Err(Status::NoMemory);
     };
-    // What was fed so far: a head that has not ended has few bytes, so the loop ends.
+    // What was fed so far: bytes in which nothing stands are bounded, so the loop ends.
     let mut count = 0;
     'pieces: loop {
         let n = match src.read(room.as_mut_slice()) {
@@ -77,7 +83,7 @@ fn take_in<S: Source>(alloc: Global, src: &mut S) -> Result<Came, Status>
         };
         match intake.feed(&room[..n]) {
             Ok(Feed::More) => count += n,
-            Ok(Feed::Whole(_)) => return admit(alloc, &intake),
+            Ok(Feed::Whole(_)) => return admit(alloc, &mut intake),
             Ok(Feed::Refused(fault)) => return Ok(Came::Refused(fault)),
             Err(_) => return Err(Status::NoMemory),
         }
@@ -91,19 +97,20 @@ fn room_for_pieces(alloc: Global) -> Result<Vec<u8>, NoMemory>
     vec![in alloc; 0u8; PIECE]
 }
 
-// Tells whether the stack answers the request that stands, and makes its environment.
-fn admit(alloc: Global, intake: &Intake) -> Result<Came, Status>
-    requires { (b : List ℕ) × (r : Parts) × Fed intake.now b × IsRequest b r }
-    ensures { (b : List ℕ) (r : Parts) → Fed intake.now b → IsRequest b r → Admits result r }
+// Tells whether the stack answers the request that stands, and makes its environment, which takes the
+// body over.
+fn admit(alloc: Global, intake: &mut Intake) -> Result<Came, Status>
+    requires { (b : List ℕ) × (r : Parts) × Fed intake.old b × IsRequest b r }
+    ensures { (b : List ℕ) (r : Parts) → Fed intake.old b → IsRequest b r → Admits result r }
 {
-    let request = intake.request().unwrap();
-    if !is_served(request) {
+    if !is_served(intake.request().unwrap()) {
         return Ok(Came::Unserved);
     }
-    let Ok(_) = environment(alloc, request) else {
-        return Err(Status::NoMemory);
-    };
-    Ok(Came::Served)
+    let input = intake.take_input();
+    match environment(alloc, intake.request().unwrap(), input) {
+        Ok(env) => Ok(Came::Served(env)),
+        Err(_) => Err(Status::NoMemory),
+    }
 }
 
 // Writes the text, in one write where the sink takes it whole.

@@ -1,14 +1,16 @@
 // The commands that wait for nobody.
 ghost use Rattle.std.specs.Prelude.{◌≡◌, ◌↔◌, ◌⊎◌, ◌∷◌, ◌++◌, [], ℕ, List, None, Some};
 ghost use Rattle.rack_outside.specs.declared.files.FileRead.{FileRead};
+ghost use Rattle.rack_outside.specs.Source.{IsPrefix};
 ghost use Rattle.rack_outside.specs.Told.{Rose};
 ghost use Rattle.puma_top.specs.Words.{once_file};
-ghost use Rattle.puma_top.specs.Stack.{IsNoHello};
+ghost use Rattle.puma_top.specs.Stack.{Endpoint, IsNoStack};
+ghost use Rattle.puma_top.specs.Once.{BreaksOff};
 ghost use Rattle.puma_top.specs.Status.{UnlessNoMemory, OnUsage, OnUnread};
-ghost use Rattle.puma_top.specs.Quiet.{Reads, Opens, ReadNamed, IsBadStack, IsStack, IsReady, Served, ServedInPart, Ran};
+ghost use Rattle.puma_top.specs.Quiet.{Reads, Opens, ReadNamed, IsBadStack, IsGoodStack, IsReady, Served, ServedInPart, Ran};
 
 use crate::once::once;
-use crate::stack::read_hello;
+use crate::stack::read_stack_line;
 use crate::words::once_file;
 use crate::{FileWhy, Status};
 use rack_outside::{FileRead, Files, Sink, Source};
@@ -48,13 +50,16 @@ pub fn run_quiet<F: Files, S: Source, K: Sink>(
         → (line ≡ 1) × (rule ≡ 0) × IsBadStack (once_file words.now)
         (F.holds files.old) (F.holds files.new) (F.texts files.old) (F.texts files.new) }
     ensures bad_stack { (name text : List ℕ) (before : Reads) → F.texts files.old ≡ Some before
-        → F.texts files.new ≡ Some (before ++ ((name, FileRead.Text text) ∷ [])) → IsNoHello text
+        → F.texts files.new ≡ Some (before ++ ((name, FileRead.Text text) ∷ [])) → IsNoStack text
         → UnlessNoMemory result (result ≡ Status.Stack 1 0) }
     ensures source_fault { result ≡ Status.SourceFault
-        → ((kind body : List ℕ) × IsStack (once_file words.now) kind body
+        → ((endpoint : Endpoint) × IsGoodStack (once_file words.now) endpoint
         (F.holds files.old) (F.holds files.new) (F.texts files.old) (F.texts files.new))
         × Rose (S.faults src.old) (S.faults src.new) }
     ensures sink_fault { result ≡ Status.SinkFault → Rose (K.faults out.old) (K.faults out.new) }
+    ensures broken_off { result ≡ Status.SourceFault → BreaksOff (S.given src.old) (S.given src.new) }
+    ensures same { S.input src.new ≡ S.input src.old }
+    ensures prefix { IsPrefix (S.given src.old) (S.input src.old) → IsPrefix (S.given src.new) (S.input src.new) }
     ensures unasked { OnUsage result (files.new ≡ files.old) }
     ensures unread { OnUnread result ((src.new ≡ src.old) × (out.new ≡ out.old)) }
     ensures unwritten { result ≡ Status.SourceFault → K.written out.new ≡ K.written out.old }
@@ -86,6 +91,8 @@ fn run_once<F: Files, S: Source, K: Sink>(
         (F.holds files.old) (F.holds files.new) (F.texts files.old) (F.texts files.new) (F.faults files.old) (F.faults files.new)
         (S.given src.old) (S.given src.new) (S.input src.new) (S.faults src.old) (S.faults src.new)
         (K.written out.old) (K.written out.new) (K.faults out.old) (K.faults out.new) }
+    ensures same { S.input src.new ≡ S.input src.old }
+    ensures prefix { IsPrefix (S.given src.old) (S.input src.old) → IsPrefix (S.given src.new) (S.input src.new) }
     ensures unasked { OnUsage result (files.new ≡ files.old) }
     ensures unread { OnUnread result ((src.new ≡ src.old) × (out.new ≡ out.old)) }
 {
@@ -96,8 +103,8 @@ fn run_once<F: Files, S: Source, K: Sink>(
         Ok(text) => text,
         Err(status) => return status,
     };
-    match read_hello(text.get()) {
-        Some(hello) => once(alloc, hello, src, out),
+    match read_stack_line(text.get()) {
+        Some(stack) => once(alloc, stack, src, out),
         None => Status::Stack { line: 1, rule: 0 },
     }
 }

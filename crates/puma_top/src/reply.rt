@@ -1,19 +1,34 @@
 // What is written for a request, and for a refusal.
 ghost use Rattle.std.specs.Prelude.{◌≡◌, IfOk, string_bytes};
-ghost use Rattle.puma_top.specs.Reply.{hello_reply, fault_reply, refusal_status, fault_status, fault_name, reason};
+ghost use Rattle.rack_types.specs.Request.{Parts};
+ghost use Rattle.puma_top.specs.Stack.{endpoint_of};
+ghost use Rattle.puma_top.specs.Reply.{endpoint_reply, text_reply, fault_reply, refusal_status, fault_status, fault_name, reason};
 
-use crate::stack::Hello;
+use crate::stack::Stack;
 use rack_types::{Fault, NoMemory};
 use std::alloc::Global;
 
 // The bytes of a reply beside its content type and its body, with the longest length.
 const HEAD_ROOM: usize = 96;
 
-/// The reply to a request, whole.
-pub(crate) fn hello_reply(alloc: Global, hello: Hello<'_>) -> Result<Vec<u8>, NoMemory>
-    ensures { IfOk result (λ reply. reply.items ≡ hello_reply hello.entry.kind.now hello.entry.body.now) }
+/// The stack's reply to a request with this body, whole.
+pub(crate) fn endpoint_reply(
+    alloc: Global,
+    stack: Stack<'_>,
+    body: &[u8],
+) -> Result<Vec<u8>, NoMemory>
+    ensures { IfOk result (λ reply. (r : Parts) → body.now ≡ r.body → reply.items ≡ endpoint_reply (endpoint_of stack.entry) r) }
 {
-    let Hello { kind, body } = hello;
+    match stack {
+        Stack::Text { kind, body } => text_reply(alloc, kind, body),
+        Stack::Echo => text_reply(alloc, b"text/plain", body),
+    }
+}
+
+// The reply 200 with this content type and this body, whole.
+fn text_reply(alloc: Global, kind: &[u8], body: &[u8]) -> Result<Vec<u8>, NoMemory>
+    ensures { IfOk result (λ reply. reply.items ≡ text_reply kind.now body.now) }
+{
     let length = format!(in alloc; "\r\ncontent-length: {}\r\n\r\n", body.len())?;
     let room = HEAD_ROOM
         .saturating_add(kind.len())

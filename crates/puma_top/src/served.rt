@@ -1,12 +1,13 @@
 // A whole request: whether the stack answers it, and its environment.
-ghost use Rattle.std.specs.Prelude.{◌≡◌, [], None, IfOk};
+ghost use Rattle.std.specs.Prelude.{◌≡◌, None, IfOk};
 ghost use Rattle.rack_types.specs.Rules.{broken_env_rule};
-ghost use Rattle.rack_env.specs.Environment.{env_pairs, with_body};
+ghost use Rattle.rack_types.specs.Request.{with_body};
+ghost use Rattle.rack_env.specs.Environment.{env_pairs};
 ghost use Rattle.rack_types.specs.Sound.{IsSound};
 ghost use Rattle.puma_top.specs.Served.{is_served, once_peer, once_local};
 
 use rack_env::env_of;
-use rack_types::{Bytes, Env, Input, Local, NoMemory, Peer, Request, Version};
+use rack_types::{Env, Input, Local, NoMemory, Peer, Request, Version};
 use std::alloc::Global;
 
 /// Whether the stack answers the request. A HEAD, a request of HTTP/1.0 and one behind which the
@@ -20,9 +21,10 @@ pub(crate) fn is_served(request: &Request) -> bool
     }
 }
 
-/// The environment of a request without a body, on the connection that `once` serves.
-pub(crate) fn environment(alloc: Global, request: &Request) -> Result<Env, NoMemory>
-    ensures pairs { IfOk result (λ e. e.pairs ≡ env_pairs (with_body [] request.now) once_peer once_local) }
+/// The environment of a request whose body is in this input, on the connection that `once` serves.
+pub(crate) fn environment(alloc: Global, request: &Request, input: Input) -> Result<Env, NoMemory>
+    ensures pairs { IfOk result (λ e. e.pairs ≡ env_pairs (with_body input.bytes request.now) once_peer once_local) }
+    ensures input { IfOk result (λ e. e.input ≡ input) }
     ensures rules { IsSound request.now → IfOk result (λ e. broken_env_rule e.pairs ≡ None) }
 {
     let peer = Peer::new(b"127.0.0.1").unwrap();
@@ -32,6 +34,5 @@ pub(crate) fn environment(alloc: Global, request: &Request) -> Result<Env, NoMem
         https: false,
         hijack: true,
     };
-    let input = Input::new(Bytes::new(Vec::new(alloc)));
     env_of(alloc, request, input, &peer, &local)
 }

@@ -1,28 +1,31 @@
-// The stack file, in the one form that is built: `run text 200 TYPE BODY`.
+// The stack file, in the two forms that are built: `run text 200 TYPE BODY` and `run echo`.
 ghost use Rattle.std.specs.Prelude.{◌≡◌, ◌≢◌, ◌++◌, ◌∷◌, List, ℕ, MatchOption, IfSome, IfNone};
 ghost use Rattle.std.specs.List.{list_all};
-ghost use Rattle.puma_top.specs.Stack.{IsHello, IsNoHello, SplitsAtSpace, DropsFeed, is_word, is_word_byte};
+ghost use Rattle.puma_top.specs.Stack.{IsStack, IsNoStack, endpoint_of, SplitsAtSpace, DropsFeed, is_word, is_word_byte};
 
 /// What the stack answers to each request.
 #[derive(Clone, Copy)]
-pub(crate) struct Hello<'a> {
-    /// The content type, a word.
-    pub(crate) kind: &'a [u8],
-    /// The body, a word.
-    pub(crate) body: &'a [u8],
+pub(crate) enum Stack<'a> {
+    /// 200 with this content type and this body, both words.
+    Text { kind: &'a [u8], body: &'a [u8] },
+    /// 200 with the request's body, as `text/plain`.
+    Echo,
 }
 
 /// The stack that this text is, where it is one: words parted by one space each, with at most one
 /// line feed behind them. It takes no memory.
-pub(crate) fn read_hello(text: &[u8]) -> Option<Hello<'_>>
-    ensures found { IfSome result (λ hello. IsHello text.now hello.kind.now hello.body.now) }
-    ensures none { IfNone result (IsNoHello text.now) }
+pub(crate) fn read_stack_line(text: &[u8]) -> Option<Stack<'_>>
+    ensures found { IfSome result (λ stack. IsStack text.now (endpoint_of stack)) }
+    ensures none { IfNone result (IsNoStack text.now) }
 {
-    let words = text.strip_prefix(b"run text 200 ".as_slice())?;
-    let (kind, last) = split_at_space(words)?;
-    let body = without_line_feed(last);
+    let line = without_line_feed(text);
+    if line == b"run echo".as_slice() {
+        return Some(Stack::Echo);
+    }
+    let words = line.strip_prefix(b"run text 200 ".as_slice())?;
+    let (kind, body) = split_at_space(words)?;
     if is_word(kind) && is_word(body) {
-        Some(Hello { kind, body })
+        Some(Stack::Text { kind, body })
     } else {
         None
     }

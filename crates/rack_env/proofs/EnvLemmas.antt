@@ -4,9 +4,9 @@ use Rattle.std.proofs.lemmas.List.{append_assoc}
 use Rattle.std.specs.List.{fold}
 use Rattle.rack_types.specs.Env.{Environment, Pairs, get_pair, with_pairs, empty_env}
 use Rattle.rack_types.specs.Input.{Reading}
-use Rattle.rack_types.specs.Request.{Parts}
+use Rattle.rack_types.specs.Request.{Parts, with_body}
 use Rattle.rack_types.specs.declared.peer.Local.{Local}
-use Rattle.rack_env.specs.Environment.{content_length, content_pairs, env_pairs, fixed_pairs, pair_if, with_body}
+use Rattle.rack_env.specs.Environment.{content_length, content_pairs, env_pairs, fixed_pairs, pair_if}
 use Rattle.rack_env.specs.Fields.{field_pairs, joined, with_authority}
 use Rattle.rack_env.specs.Host.{server}
 use Rattle.rack_env.specs.Placing.{host_last, place_field}

@@ -3,8 +3,8 @@ use Rattle.std.proofs.Common.{◌≡◌, ℕ, true, false, cond, List, [], ◌�
 use Rattle.std.proofs.lemmas.List.{append_assoc}
 use Rattle.rack_types.specs.Env.{Environment, Pairs, get_pair, set_pair, with_pairs}
 use Rattle.rack_types.specs.Fields.{values_of}
-use Rattle.rack_types.specs.Request.{Parts}
-use Rattle.rack_env.specs.Environment.{content_pairs, pair_if, with_body}
+use Rattle.rack_types.specs.Request.{Parts, with_body}
+use Rattle.rack_env.specs.Environment.{content_pairs, pair_if}
 use Rattle.rack_env.specs.Fields.{joined}
 use Rattle.rack_env.proofs.JoinLemmas.{set_pair-append, get_pair-append}
 

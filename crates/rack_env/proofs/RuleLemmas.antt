@@ -4,12 +4,12 @@ use Rattle.rack_text.specs.Decimal.{is_decimal, decimal_value}
 use Rattle.rack_text.proofs.DecimalLemmas.{decimal_number-decimal}
 use Rattle.rack_types.specs.Env.{Pairs, get_pair}
 use Rattle.rack_types.specs.Fields.{values_of}
-use Rattle.rack_types.specs.Request.{Parts}
+use Rattle.rack_types.specs.Request.{Parts, with_body}
 use Rattle.rack_types.specs.Rules.{broken_env_rule, first_broken, if_there, is_empty, begins_with_slash, breaks_E1, breaks_E2, breaks_E3, breaks_E4, breaks_E5, breaks_E6, breaks_E7, breaks_E8, breaks_E9, breaks_E10}
 use Rattle.rack_types.specs.declared.limits.Version.{Version}
 use Rattle.rack_types.specs.declared.limits.Version.TheVariants.{Http10, Http11}
 use Rattle.rack_types.specs.declared.peer.Local.{Local}
-use Rattle.rack_env.specs.Environment.{content_length, content_pairs, env_pairs, fixed_pairs, pair_if, protocol, scheme, with_body}
+use Rattle.rack_env.specs.Environment.{content_length, content_pairs, env_pairs, fixed_pairs, pair_if, protocol, scheme}
 use Rattle.rack_env.specs.Fields.{field_pairs, joined, with_authority}
 use Rattle.rack_env.specs.Host.{host_or_local, host_text, server}
 use Rattle.rack_types.specs.Sound.{IsSound, is_path_right, is_length_right}

@@ -58,16 +58,3 @@ content_pairs r =
 -- the pairs of a request's environment, in order, by the peer's text and the local side
 unfoldable pub env_pairs : Parts → List ℕ → Local → Pairs
 env_pairs r peer local = fixed_pairs r peer local ++ (content_pairs r ++ with_authority r.authority (field_pairs r.fields))
-
--- the request with this body
-abbrev pub with_body : List ℕ → Parts → Parts
-with_body body r = record {
-  method = r.method;
-  path = r.path;
-  query = r.query;
-  authority = r.authority;
-  version = r.version;
-  fields = r.fields;
-  body = body;
-  chunked = r.chunked;
-}

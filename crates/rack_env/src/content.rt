@@ -1,8 +1,9 @@
 // The pairs of the body's type and length.
 ghost use Rattle.std.specs.Prelude.{◌≡◌, ◌++◌, ℕ, List, None, OnOk, codes, length};
 ghost use Rattle.rack_types.specs.Env.{get_pair, with_pairs};
+ghost use Rattle.rack_types.specs.Request.{with_body};
 ghost use Rattle.rack_types.specs.Fields.{values_of};
-ghost use Rattle.rack_env.specs.Environment.{content_pairs, pair_if, with_body};
+ghost use Rattle.rack_env.specs.Environment.{content_pairs, pair_if};
 ghost use Rattle.rack_env.specs.Fields.{joined};
 
 use crate::fields::join_value;

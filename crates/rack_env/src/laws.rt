@@ -8,9 +8,10 @@ ghost use Rattle.rack_types.specs.declared.peer.Local.{Local};
 ghost use Rattle.rack_env.specs.Environment.{env_pairs};
 ghost use Rattle.rack_env.specs.Fields.{http_name, is_left_out, joined};
 
-/// What an environment has of the request's fields, whatever their order and the case of their
-/// letters: by a field's own name the values of all fields with that name, joined in order, and none
-/// where there is no such field; by Host's name the target's authority, where there is one.
+/// What an environment has of those fields of a request that it names `HTTP_`, whatever their order and the
+/// case of their letters: by the name that a field is given the values of all fields with that name, joined
+/// in order, and none where there is no such field; by Host's name the target's authority, where there is
+/// one. Which fields are left out, how a name is given and how values are joined is in the definitions.
 pub fn fields_are_found()
     ensures value { (r : Parts) (peer : List ℕ) (local : Local) (name : List ℕ) → is_left_out name ≡ false
         → (r.authority ≡ None) ⊎ (same_ignoring_case name (codes "host") ≡ false)

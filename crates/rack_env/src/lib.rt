@@ -3,9 +3,10 @@
 #![tactic(auto)]
 
 ghost use Rattle.std.specs.Prelude.{◌≡◌, ◌<◌, None, length, IfOk};
+ghost use Rattle.rack_types.specs.Request.{with_body};
 ghost use Rattle.rack_types.specs.Rules.{broken_env_rule};
 ghost use Rattle.rack_types.specs.Sound.{IsSound};
-ghost use Rattle.rack_env.specs.Environment.{env_pairs, with_body};
+ghost use Rattle.rack_env.specs.Environment.{env_pairs};
 
 mod content;
 mod fields;
@@ -44,6 +45,3 @@ pub fn env_of(
     fields::put_fields(alloc, &mut env, request)?;
     Ok(env)
 }
-
-#[cfg(test)]
-mod tests;

@@ -1,10 +1,11 @@
 -- What a request says: the parts of its head, and its body (RFC 9112, sections 3, 5 and 6).
-use Rattle.std.specs.Prelude.{ℕ, ◌≤◌, Bool, List, [], ◌∷◌, length, take, map, All, Option, None, Some, ⊤}
+use Rattle.std.specs.Prelude.{◌≡◌, ℕ, ◌≤◌, Bool, List, [], ◌∷◌, length, take, drop, map, All, Option, None, Some, ⊤}
 use Rattle.httparse.specs.declared.spans.Span.{Span}
 use Rattle.httparse.specs.declared.spans.HeaderSpan.{HeaderSpan}
 use Rattle.httparse.specs.Spans.{span_bytes, IsWithin, IsHeaderWithin, header_bytes}
 use Rattle.rack_types.specs.declared.limits.Version.{Version}
 use Rattle.rack_types.specs.declared.request.Spans.{Spans}
+use Rattle.rack_types.specs.Limits.{stock_limits}
 
 -- the parts of a request: a field is its name and its value, and a query that is not there is empty
 pub record Parts : Type 0 where
@@ -16,6 +17,23 @@ pub record Parts : Type 0 where
   pub fields : List (List ℕ × List ℕ)
   pub body : List ℕ
   pub chunked : Bool
+
+-- the request with this body, which came in chunks or did not
+abbrev pub framed : List ℕ → Bool → Parts → Parts
+framed body chunked r = record {
+  method = r.method;
+  path = r.path;
+  query = r.query;
+  authority = r.authority;
+  version = r.version;
+  fields = r.fields;
+  body = body;
+  chunked = chunked;
+}
+
+-- the request with this body
+abbrev pub with_body : List ℕ → Parts → Parts
+with_body body r = framed body r.chunked r
 
 -- the path of a target whose own path is empty is `/`
 abbrev pub path_or_root : List ℕ → List ℕ
@@ -53,3 +71,11 @@ pub record SpansFit (head : List ℕ) (fields : List HeaderSpan) (spans : Spans)
   pub authority : IsWithinIf (length head) spans.authority
   pub count : spans.fields ≤ length fields
   pub fields_fit : All (IsHeaderWithin (length head)) (take spans.fields fields)
+
+-- what a request keeps: a head, which begins behind the empty lines that were skipped, with its spans,
+-- in room for any head and its fields
+pub record IsKept (room : ℕ) (head : List ℕ) (fields : List HeaderSpan) (spans : Spans) : Type 0 where
+  pub start : spans.start ≤ length head
+  pub fit : SpansFit (drop spans.start head) fields spans
+  pub room_is : stock_limits.head ≤ room
+  pub places_are : length fields ≡ stock_limits.lines

@@ -20,6 +20,6 @@ pub use request::{Request, Spans};
 
 /// A refused allocation.
 ///
-/// It may come at any call whose signature names it, and no clause says when: each "exactly where"
-/// of a contract yields to it.
+/// It may come at any call whose signature names it, unless the call's contract says where. What a
+/// contract says of other answers yields to it.
 pub type NoMemory = std::alloc::AllocError;

@@ -1,13 +1,15 @@
 // A request as it came, lent in parts.
-ghost use Rattle.std.specs.Prelude.{◌≡◌, ◌≤◌, ◌<◌, Some, codes, drop, length, map, slice_get, vec_len};
+ghost use Rattle.std.specs.Prelude.{◌≡◌, ◌≤◌, ◌<◌, [], Some, codes, drop, length, map, slice_get, vec_capacity, vec_len};
 ghost use Rattle.std.specs.Option.{option_copied};
 ghost use Rattle.rack_types.specs.Fields.{goes_on, persists_by, values_of};
-ghost use Rattle.rack_types.specs.Request.{SpansFit, parts_at};
+ghost use Rattle.rack_types.specs.Limits.{stock_limits};
+ghost use Rattle.rack_types.specs.Request.{SpansFit, framed, parts_at, with_body};
 
 use crate::Version;
 use httparse::spans::{HeaderSpan, Span};
 use rack_text::{list_has, same_ignoring_case};
 use std::marker::Model;
+use std::mem;
 
 /// Where the parts of a head are in its bytes.
 #[derive(Clone, Copy, Debug)]
@@ -27,7 +29,8 @@ pub struct Spans {
     pub fields: usize,
 }
 
-/// A whole request. It lends its parts from the bytes that came, and copies none of them.
+/// A request: its head, and its body once it has come. It lends the parts of the head from the bytes that
+/// came, and copies none of them. It keeps the room of a head, which a later request can use.
 ///
 /// A contract sees it as its `Parts`. What is said below of the form of a part holds of each request
 /// that an intake gives.
@@ -41,18 +44,19 @@ pub struct Request {
 }
 
 impl Model for Request {
-    ghost use Rattle.std.specs.Prelude.{◌≤◌, drop, vec_len};
-    ghost use Rattle.rack_types.specs.Request.{Parts, SpansFit, parts_at};
+    ghost use Rattle.std.specs.Prelude.{drop, vec_capacity};
+    ghost use Rattle.rack_types.specs.Request.{IsKept, Parts, parts_at};
 
     ghost Value = { Parts };
 
     ghost view = { λ r. parts_at (drop r.spans.start r.head.items) r.fields.items r.spans r.body.items r.chunked };
 
-    ghost invariant = { λ r. (r.spans.start ≤ vec_len r.head) × SpansFit (drop r.spans.start r.head.items) r.fields.items r.spans };
+    ghost invariant = { λ r. IsKept (vec_capacity r.head) r.head.items r.fields.items r.spans };
 }
 
 impl Request {
-    /// The request whose head has these parts, with this body. It takes no memory.
+    /// The request whose head has these parts, with this body. The head has the room of any head, and
+    /// the fields as many places as a head may have. It takes no memory.
     pub fn new(
         head: Vec<u8>,
         fields: Vec<HeaderSpan>,
@@ -62,6 +66,8 @@ impl Request {
     ) -> Request
         requires start { spans.start ≤ vec_len head }
         requires fit { SpansFit (drop spans.start head.items) fields.items spans }
+        requires room { stock_limits.head ≤ vec_capacity head }
+        requires places { vec_len fields ≡ stock_limits.lines }
         ensures { result ≡ parts_at (drop spans.start head.items) fields.items spans body.items chunked }
     {
         Request {
@@ -151,6 +157,31 @@ impl Request {
         ensures { result ≡ self.now.chunked }
     {
         self.chunked
+    }
+
+    /// Gives the request this body, which came in chunks or did not.
+    pub fn put_body(&mut self, body: Vec<u8>, chunked: bool)
+        ensures { self.new ≡ framed body.items chunked self.old }
+    {
+        self.body = body;
+        self.chunked = chunked;
+    }
+
+    /// Moves the body out, and leaves an empty one. It copies nothing.
+    pub fn take_body(&mut self) -> Vec<u8>
+        ensures body { result.items ≡ self.old.body }
+        ensures left { self.new ≡ with_body [] self.old }
+    {
+        let alloc = *self.body.allocator();
+        mem::replace(&mut self.body, Vec::new(alloc))
+    }
+
+    /// Room for a head and for its fields, for a further request.
+    pub fn into_room(self) -> (Vec<u8>, Vec<HeaderSpan>)
+        ensures room { stock_limits.head ≤ vec_capacity result.0 }
+        ensures places { vec_len result.1 ≡ stock_limits.lines }
+    {
+        (self.head, self.fields)
     }
 
     /// Whether the connection may go on behind this request (RFC 9112, section 9.3): in HTTP/1.1

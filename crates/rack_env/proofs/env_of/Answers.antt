@@ -1,7 +1,8 @@
 use Rattle.std.proofs.Common.{◌≡◌, ◌<◌, ◌^◌, arith, length, sym, ap, ◌∙◌, codes}
 use Rattle.rack_types.specs.Env.{Environment, get_pair}
+use Rattle.rack_types.specs.Request.{with_body}
 use Rattle.rack_types.specs.Rules.{broken_env_rule}
-use Rattle.rack_env.specs.Environment.{env_pairs, with_body}
+use Rattle.rack_env.specs.Environment.{env_pairs}
 use Rattle.rack_env.proofs.EnvLemmas.{no_type_fixed, no_length_fixed, env_whole}
 use Rattle.rack_env.proofs.RuleLemmas.{keeps_rules, sound_whole}
 use Rattle.rack_env.proofs.env_of.Goals as goal

@@ -33,6 +33,6 @@ returns-clause-parts c = λ h at.
       target = found.0;
       form = form;
       no_connect = other;
-      parts = rw (c.shifted.ensures, c.shifted-2.ensures, c.shifted_if.ensures)
-          (parts_of_head c.args.text.now c.args.places.now c.args.head.now spans h found.0 c.args.start c.version_of.result at c.requires.within.path.0 fits cover (c.version_of.ensures ∙ ap version_of at.version));
+      parts = λ body. rw (c.shifted.ensures, c.shifted-2.ensures, c.shifted_if.ensures)
+          (parts_of_head c.args.text.now c.args.places.now c.args.head.now spans h found.0 c.args.start c.version_of.result body at c.requires.within.path.0 fits cover (c.version_of.ensures ∙ ap version_of at.version));
     }

@@ -1,19 +1,34 @@
-use Rattle.std.proofs.Common.{Bor, ap, sym, ◌∙◌}
-use Rattle.rack_types.specs.Request.{Parts}
+use Rattle.std.proofs.Common.{◌≡◌, Bor, [], ap, sym, ◌∙◌, subst}
+use Rattle.rack_types.specs.Input.{Reading}
+use Rattle.rack_types.specs.Request.{Parts, with_body}
+use Rattle.rack_types.specs.Sound.{IsSound}
+use Rattle.rack_env.specs.Environment.{env_pairs}
 use Rattle.message_framing.specs.Request.{IsRequest}
-use Rattle.puma_top.specs.Served.{is_served}
-use Rattle.puma_top.proofs.OnceLemmas.{if_some_at, same_request}
+use Rattle.puma_top.specs.Served.{is_served, once_peer, once_local}
+use Rattle.message_framing.proofs.SoundLemmas.{request_sound}
+use Rattle.puma_top.proofs.OnceLemmas.{if_some_at, some_and_at, same_request, emptied_sound}
 use Rattle.puma_top.proofs.once.admit.Goals as goal
 
-pub unwrap-request-requires : goal.unwrap-request-requires
-unwrap-request-requires c = c.request.ensures.none c.requires.0 c.requires.1 c.requires.2 c.requires.3
+pub unwrap-requires : goal.unwrap-requires
+unwrap-requires c = c.request.ensures.none c.requires.0 c.requires.1 c.requires.2 c.requires.3
 
 pub returns-then-not-is_served : goal.returns-then-not-is_served
 returns-then-not-is_served c = λ b r fed is.
-    ap is_served (same_request b r c.unwrap-request.result.now is (if_some_at (λ (q : Bor Parts). IsRequest b q.now) _ _ (c.request.ensures.there b fed) c.unwrap-request.ensures))
+    ap is_served (same_request b r c.unwrap.result.now is (if_some_at (λ (q : Bor Parts). IsRequest b q.now) _ _ (c.request.ensures.there b fed) c.unwrap.ensures))
     ∙ sym c.is_served.ensures ∙ c.if-not-is_served.true
 
-pub returns : goal.returns
-returns c = λ b r fed is.
-    ap is_served (same_request b r c.unwrap-request.result.now is (if_some_at (λ (q : Bor Parts). IsRequest b q.now) _ _ (c.request.ensures.there b fed) c.unwrap-request.ensures))
-    ∙ sym c.is_served.ensures ∙ c.if-not-is_served.false
+pub returns-in-Ok : goal.returns-in-Ok
+returns-in-Ok c = λ b r fed is.
+    let taken = c.take_input-input.ensures.first b r fed is in
+    let emptied : c.unwrap-2.result.now ≡ with_body [] r =
+    some_and_at (λ (q : Bor Parts). q.now ≡ with_body [] r) _ _ (c.request-2.ensures.spent b r taken.1 is) c.unwrap-2.ensures in (
+      ap is_served (same_request b r c.unwrap.result.now is (if_some_at (λ (q : Bor Parts). IsRequest b q.now) _ _ (c.request.ensures.there b fed) c.unwrap.ensures))
+          ∙ sym c.is_served.ensures ∙ c.if-not-is_served.false,
+      record {
+        pairs = c.in-Ok.ensures.pairs
+            ∙ ap (λ (q : Parts). env_pairs (with_body c.take_input-input.result.bytes q) once_peer once_local) emptied
+            ∙ ap (λ (i : Reading). env_pairs (with_body i.bytes r) once_peer once_local) taken.0;
+        input = c.in-Ok.ensures.input ∙ taken.0;
+        rules = c.in-Ok.ensures.rules (subst IsSound (sym emptied) (emptied_sound r (request_sound b r is)));
+      },
+    )

@@ -8,5 +8,5 @@ returns c =
     let text = drop inside.spans.start inside.head.items in
     rw (← c.self.view_is)
     (field_at (λ f. f.0) text inside.fields.items inside.spans.fields c.args.i c.index.result.now
-    (field_below _ _ inside.spans _ _ _ c.args.i c.self.view_is c.self.invariant.1.count c.requires) c.self.invariant.1.count c.index.ensures
+    (field_below _ _ inside.spans _ _ _ c.args.i c.self.view_is c.self.invariant.fit.count c.requires) c.self.invariant.fit.count c.index.ensures
     ∙ ap Some (sym (simp (c.text_of.ensures, c.deref.ensures.value) at c.of.ensures)))
