@@ -1,5 +1,5 @@
 -- Fields and codings that are looked at one behind the other.
-use Rattle.std.proofs.Common.{◌≡◌, ◌≢◌, ℕ, ◌+◌, ◌<◌, true, false, nat_lt, if◌then◌else◌, List, [], ◌∷◌, ◌++◌, length, take, drop, map, slice_get, Bor, MatchOption, MatchResult, Option, None, Some, Result, Ok, Err, refl, ap, sym, ◌∙◌, arith, subst, length-append, inl, inr}
+use Rattle.std.proofs.Common.{◌≡◌, ◌≢◌, ℕ, ◌+◌, ◌<◌, true, false, nat_lt, List, [], ◌∷◌, ◌++◌, length, take, drop, map, slice_get, Bor, MatchOption, MatchResult, Option, None, Some, Result, Ok, Err, refl, ap, sym, ◌∙◌, arith, subst, length-append, inl, inr}
 use Rattle.std.proofs.lemmas.List.{append_assoc, append-nil, map-append, take-append-drop}
 use Rattle.std.proofs.lemmas.List.Elements.{filter-append}
 use Rattle.std.proofs.lemmas.Grind.{flat_map-append}
@@ -9,7 +9,7 @@ use Rattle.rack_text.specs.Lists.{elements}
 use Rattle.std.proofs.lemmas.Bool.{lt-ltb, cases_lt, le-ltb}
 use Rattle.rack_text.specs.Case.{same_ignoring_case}
 use Rattle.rack_types.specs.Fields.{values_of}
-use Rattle.rack_types.proofs.FieldLemmas.{IsFieldAt, take_field, values_more, field_at_name}
+use Rattle.rack_types.proofs.FieldLemmas.{field_at_name, values_here}
 use Rattle.std.specs.Prelude.{codes}
 use Rattle.message_framing.specs.declared.fields.Occurs.{Occurs}
 use Rattle.message_framing.specs.declared.fields.Occurs.TheVariants.{Never, Once, Again}
@@ -89,21 +89,6 @@ pub found_some : (seen : Occurs) (values : List (List ℕ)) → OccursAs seen va
 found_some Never values h other = absurd (other refl)
 found_some (Once value) values h other = omega (arith, ap length h)
 found_some Again values h other = omega (arith, h)
-
--- the values of one name with the field at a place, which has the name
-pub values_here : (name : List ℕ) (fields : List (List ℕ × List ℕ)) (i : ℕ) (field value : List ℕ) → IsFieldAt fields i field value
-    → same_ignoring_case field name ≡ true → values_of name (take (i + 1) fields) ≡ values_of name (take i fields) ++ value ∷ []
-values_here name fields i field value at same =
-    ap (values_of name) (take_field fields i field value at) ∙ values_more name (take i fields) field value
-    ∙ ap (λ b. values_of name (take i fields) ++ (if b then value ∷ [] else [])) same
-
--- and with one that has not
-pub values_elsewhere : (name : List ℕ) (fields : List (List ℕ × List ℕ)) (i : ℕ) (field : List ℕ) → slice_get (map (λ f. f.0) fields) i ≡ Some field
-    → same_ignoring_case field name ≡ false → values_of name (take (i + 1) fields) ≡ values_of name (take i fields)
-values_elsewhere name fields i field is other =
-    let at = field_at_name fields i field is in
-    ap (values_of name) (take_field fields i field at.0 at.1) ∙ values_more name (take i fields) field at.0
-    ∙ ap (λ b. values_of name (take i fields) ++ (if b then at.0 ∷ [] else [])) other ∙ append-nil _
 
 -- two at least
 pub found_again : (name : List ℕ) (fields : List (List ℕ × List ℕ)) (i : ℕ) (field : List ℕ) (seen : Occurs)

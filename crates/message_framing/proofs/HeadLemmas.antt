@@ -6,7 +6,7 @@ use Rattle.std.proofs.lemmas.List.{drop_all, drop-drop, take_all}
 use Rattle.std.proofs.lemmas.List.Sums.{position_or_len_is}
 use Rattle.memchr.specs.Find.{Nowhere, NoneBefore, Passes}
 use Rattle.message_framing.specs.Target.{is_question}
-use Rattle.message_framing.proofs.ScanLemmas.{not_true}
+use Rattle.message_framing.proofs.ScanPieceLemmas.{not_true}
 use Rattle.message_framing.proofs.SliceLemmas.{slice_front}
 
 -- the first place whose byte passes a test, as memchr found it

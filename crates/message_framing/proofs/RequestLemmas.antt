@@ -16,7 +16,8 @@ use Rattle.message_framing.specs.Body.{IsBody, BodyRefusal}
 use Rattle.message_framing.specs.Request.{head_limit, head_within, has_too_many_lines, FaultOrBody, HeadRefusal, TextRefusal, RefusalAt, Refusal, IsGoodHead, IsGoodText, RequestAt, IsRequest, Begins, Wanting}
 use Rattle.message_framing.specs.Reads.{StandsIn, StandsHead, RefusedIn, RefusesHead}
 use Rattle.message_framing.specs.Intake.{EndsHead}
-use Rattle.message_framing.proofs.ScanLemmas.{scan_head, ends_stays, ends_take, ends_within}
+use Rattle.message_framing.proofs.HeadTextLemmas.{scan_head}
+use Rattle.message_framing.proofs.ScanLemmas.{ends_stays, ends_take, ends_within}
 use Rattle.message_framing.proofs.ChunkLemmas.{body_unique, body_not_refused, body_refusal_unique, body_refusal_stays}
 
 -- a head text that has ended stays ended
@@ -63,13 +64,6 @@ whole_end b n is =
 pub within_append : (b c : List ℕ) (n : ℕ) → head_within b ≡ Some n → head_within (b ++ c) ≡ Some n
 within_append b c n is = let at = ends_at b n is in ends_so (b ++ c) n (head_stays b c n at.len) at.limit
 
-pub take_append : (b c : List ℕ) (n : ℕ) → n ≤ length b → take n (b ++ c) ≡ take n b
-take_append b c n fits = take-append-le n b c fits
-
--- the bytes behind the head go on with what follows
-pub drop_append : (b c : List ℕ) (n : ℕ) → n ≤ length b → drop n (b ++ c) ≡ drop n b ++ c
-drop_append b c n fits = drop-append-le n b c fits
-
 -- a text is one head at most
 pub head_unique : (t : List ℕ) (h k : RequestHead) → IsHead t h → IsHead t k → h ≡ k
 head_unique t h k x y = (request_unique t h k [] [] x.0 y.0).0
@@ -96,14 +90,14 @@ refusal_stays b c f h = go (head_within b) refl h
     go : (o : Option ℕ) → head_within b ≡ o → RefusalAt o b f → Refusal (b ++ c) f
     go None is h =
         let longer : head_limit ≤ length b = omega (arith, h.0) in
-        let same : head_within (b ++ c) ≡ None = ap head_len (take_append b c head_limit longer) ∙ is in
+        let same : head_within (b ++ c) ≡ None = ap head_len (take-append-le head_limit b c longer) ∙ is in
         subst (λ (o : Option ℕ). RefusalAt o (b ++ c) f) (sym same) (omega (arith, h.0, length-append b c), h.1)
     go (Some n) is h =
         let inside = (ends_at b n is).inside in
         let same : head_within (b ++ c) ≡ Some n = within_append b c n is in
         subst (λ (o : Option ℕ). RefusalAt o (b ++ c) f) (sym same)
-        (subst (λ (t : List ℕ). TextRefusal (head_text t) (drop n (b ++ c)) f) (sym (take_append b c n inside))
-        (subst (λ (x : List ℕ). TextRefusal (head_text (take n b)) x f) (sym (drop_append b c n inside))
+        (subst (λ (t : List ℕ). TextRefusal (head_text t) (drop n (b ++ c)) f) (sym (take-append-le n b c inside))
+        (subst (λ (x : List ℕ). TextRefusal (head_text (take n b)) x f) (sym (drop-append-le n b c inside))
         (text_refusal_stays (head_text (take n b)) (drop n b) c f h)))
 
 -- a request has its head text, and behind it its body
@@ -260,7 +254,7 @@ refusal_unique b f g x y = go (head_within b) x y
 
 pub begins_stays : (b c : List ℕ) (n : ℕ) (r : Parts) → Begins b n r → Begins (b ++ c) n r
 begins_stays b c n r x =
-    (omega (arith, x.0, length-append b c), subst (λ (w : List ℕ). IsRequest w r) (sym (take_append b c n x.0)) x.1)
+    (omega (arith, x.0, length-append b c), subst (λ (w : List ℕ). IsRequest w r) (sym (take-append-le n b c x.0)) x.1)
 
 -- where the head text has not ended and the limit is kept, neither stands
 pub wanting : (b : List ℕ) → head_len b ≡ None → length b ≤ head_limit → Wanting b
@@ -388,7 +382,7 @@ refusal_of_head b n f is h = refused_at b n f is (go (has_too_many_lines (head_t
 pub ends_head_stays : (b c : List ℕ) (n : ℕ) (r : Parts) (g : Framing) → EndsHead b n r g → EndsHead (b ++ c) n r g
 ends_head_stays b c n r g h = record {
   end = within_append b c n h.end;
-  head = subst (λ (w : List ℕ). StandsHead (head_text w) r g) (sym (take_append b c n (ends_at b n h.end).inside)) h.head;
+  head = subst (λ (w : List ℕ). StandsHead (head_text w) r g) (sym (take-append-le n b c (ends_at b n h.end).inside)) h.head;
 }
 
 -- it is a head, as the definitions name it

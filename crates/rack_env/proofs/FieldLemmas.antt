@@ -1,30 +1,15 @@
 -- A request's fields, read one behind the other.
-use Rattle.std.proofs.Common.{◌≡◌, ℕ, ◌+◌, true, false, if◌then◌else◌, List, [], ◌∷◌, ◌++◌, map, filter, take, drop, slice_get, Option, Some, sym, ap, ◌∙◌}
-use Rattle.std.proofs.lemmas.List.{append-nil, map-append, take-append-drop}
+use Rattle.std.proofs.Common.{◌≡◌, ℕ, ◌+◌, true, List, [], ◌∷◌, ◌++◌, map, filter, take, drop, Option, sym, ap, ◌∙◌}
+use Rattle.std.proofs.lemmas.List.{map-append, take-append-drop}
 use Rattle.std.proofs.lemmas.List.Elements.{filter-append}
 use Rattle.std.proofs.lemmas.List.Sums.{fold-append}
 use Rattle.std.specs.List.{fold}
 use Rattle.rack_text.specs.Case.{same_ignoring_case}
 use Rattle.rack_types.specs.Env.{Environment, Pairs, with_pairs}
 use Rattle.rack_types.specs.Fields.{values_of}
-use Rattle.rack_types.proofs.FieldLemmas.{IsFieldAt, take_field, values_more, field_at_name}
+use Rattle.rack_types.proofs.FieldLemmas.{IsFieldAt, take_field, values_here}
 use Rattle.rack_env.specs.Fields.{join_pair}
 use Rattle.rack_env.specs.Placing.{join_values, place_field}
-
--- the values of one name, with a field more that has it
-pub values_here : (word : List ℕ) (fields : List (List ℕ × List ℕ)) (i : ℕ) (name value : List ℕ) → IsFieldAt fields i name value
-    → same_ignoring_case name word ≡ true → values_of word (take (i + 1) fields) ≡ values_of word (take i fields) ++ value ∷ []
-values_here word fields i name value at same =
-    ap (values_of word) (take_field fields i name value at) ∙ values_more word (take i fields) name value
-    ∙ ap (λ b. values_of word (take i fields) ++ (if b then value ∷ [] else [])) same
-
--- and with one that has not
-pub values_elsewhere : (word : List ℕ) (fields : List (List ℕ × List ℕ)) (i : ℕ) (name : List ℕ) → slice_get (map (λ f. f.0) fields) i ≡ Some name
-    → same_ignoring_case name word ≡ false → values_of word (take (i + 1) fields) ≡ values_of word (take i fields)
-values_elsewhere word fields i name is other =
-    let at = field_at_name fields i name is in
-    ap (values_of word) (take_field fields i name at.0 at.1) ∙ values_more word (take i fields) name at.0
-    ∙ ap (λ b. values_of word (take i fields) ++ (if b then at.0 ∷ [] else [])) other ∙ append-nil _
 
 values_of-append : (word : List ℕ) (xs ys : List (List ℕ × List ℕ)) → values_of word (xs ++ ys) ≡ values_of word xs ++ values_of word ys
 values_of-append word xs ys =

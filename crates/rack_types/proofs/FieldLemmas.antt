@@ -92,3 +92,18 @@ field_at_name fields i name is =
         value_is = slice_get-map (λ (f : List ℕ × List ℕ). f.1) fields i ∙ ap (option_map (λ (f : List ℕ × List ℕ). f.1)) read;
       },
     )
+
+-- the values of one name, with a field more that has it
+pub values_here : (word : List ℕ) (fields : List (List ℕ × List ℕ)) (i : ℕ) (name value : List ℕ) → IsFieldAt fields i name value
+    → same_ignoring_case name word ≡ true → values_of word (take (i + 1) fields) ≡ values_of word (take i fields) ++ value ∷ []
+values_here word fields i name value at same =
+    ap (values_of word) (take_field fields i name value at) ∙ values_more word (take i fields) name value
+    ∙ ap (λ b. values_of word (take i fields) ++ (if b then value ∷ [] else [])) same
+
+-- and with one that has not
+pub values_elsewhere : (word : List ℕ) (fields : List (List ℕ × List ℕ)) (i : ℕ) (name : List ℕ) → slice_get (map (λ f. f.0) fields) i ≡ Some name
+    → same_ignoring_case name word ≡ false → values_of word (take (i + 1) fields) ≡ values_of word (take i fields)
+values_elsewhere word fields i name is other =
+    let at = field_at_name fields i name is in
+    ap (values_of word) (take_field fields i name at.0 at.1) ∙ values_more word (take i fields) name at.0
+    ∙ ap (λ b. values_of word (take i fields) ++ (if b then at.0 ∷ [] else [])) other ∙ append-nil _

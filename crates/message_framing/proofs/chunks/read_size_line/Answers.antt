@@ -1,4 +1,4 @@
-use Rattle.message_framing.proofs.DecodingLemmas.{whole_chunk_line}
+use Rattle.message_framing.proofs.SizeLineLemmas.{whole_chunk_line}
 use Rattle.message_framing.proofs.chunks.read_size_line.Goals as goal
 
 pub returns-else-len-line-clause-none : goal.returns-else-len-line-clause-none

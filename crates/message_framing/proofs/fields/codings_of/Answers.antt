@@ -1,8 +1,8 @@
 use Rattle.std.proofs.Common.{ap, sym, ◌∙◌, ◌≤◌, refl, length, subst, arith, codes, List, ℕ}
 use Rattle.std.proofs.lemmas.List.{take_all}
 use Rattle.rack_types.specs.Fields.{values_of}
-use Rattle.rack_types.proofs.FieldLemmas.{IsFieldAt}
-use Rattle.message_framing.proofs.FieldLemmas.{CodingsFound, codings_more, codings_tell, values_here, values_elsewhere}
+use Rattle.rack_types.proofs.FieldLemmas.{IsFieldAt, values_here, values_elsewhere}
+use Rattle.message_framing.proofs.FieldLemmas.{CodingsFound, codings_more, codings_tell}
 use Rattle.message_framing.proofs.fields.codings_of.Goals as goal
 use Rattle.message_framing.proofs.fields.codings_of.Goals.{then-same_ignoring_case, else-same_ignoring_case}
 

@@ -1,10 +1,10 @@
 use Rattle.std.proofs.Common.{ap, sym, ◌∙◌, ◌≤◌, length, take, subst, arith, List, ℕ}
 use Rattle.std.proofs.lemmas.List.{take_all}
 use Rattle.rack_types.specs.Fields.{values_of}
-use Rattle.rack_types.proofs.FieldLemmas.{IsFieldAt}
+use Rattle.rack_types.proofs.FieldLemmas.{IsFieldAt, values_here, values_elsewhere}
 use Rattle.message_framing.specs.declared.fields.Occurs.{Occurs}
 use Rattle.message_framing.specs.Found.{OccursAs}
-use Rattle.message_framing.proofs.FieldLemmas.{found_first, found_again, values_here, values_elsewhere}
+use Rattle.message_framing.proofs.FieldLemmas.{found_first, found_again}
 use Rattle.message_framing.proofs.fields.occurs_in.Goals as goal
 use Rattle.message_framing.proofs.fields.occurs_in.Goals.{then-same_ignoring_case+in-Never, else-same_ignoring_case}
 

@@ -1,4 +1,4 @@
-use Rattle.message_framing.proofs.IntakeLemmas.{right_unique, right_behind_request, right_behind_refusal}
+use Rattle.message_framing.proofs.AnswerLemmas.{right_unique, right_behind_request, right_behind_refusal}
 use Rattle.message_framing.proofs.laws.one_answer_is_right.Goals as goal
 
 pub returns : goal.returns

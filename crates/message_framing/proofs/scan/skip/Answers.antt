@@ -1,4 +1,4 @@
-use Rattle.message_framing.proofs.ScanLemmas.{skip_feed, skip_return, skip_to_end, skip_to_letter, skip_to_return, skip_to_last_return}
+use Rattle.message_framing.proofs.SkipLemmas.{skip_feed, skip_return, skip_to_end, skip_to_letter, skip_to_return, skip_to_last_return}
 use Rattle.message_framing.proofs.scan.skip.Goals as goal
 use Rattle.message_framing.proofs.scan.skip.Goals.{else-bytes-at-eq13-via-then-bytes-at-eq13+then-at-bytes+else-bytes-at-eq10-2, else-bytes-at-eq13-via-then-bytes-at-eq13+else-at-bytes, else-bytes-at-eq13-via-else-bytes-at-eq13}
 

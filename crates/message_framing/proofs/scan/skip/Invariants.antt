@@ -1,5 +1,5 @@
 use Rattle.std.proofs.Common.{length, ◌-◌}
-use Rattle.message_framing.proofs.ScanLemmas.{IsSkipped}
+use Rattle.message_framing.proofs.SkipLemmas.{IsSkipped}
 use Rattle.message_framing.proofs.scan.skip.Given as goal
 
 abbrev pub invariant-loop-at : goal.invariant-loop-at

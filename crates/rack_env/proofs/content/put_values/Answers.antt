@@ -2,9 +2,9 @@ use Rattle.std.proofs.Common.{◌≤◌, sym, ap, ◌∙◌, arith, length}
 use Rattle.std.proofs.lemmas.List.{take_all}
 use Rattle.rack_types.specs.Env.{with_pairs}
 use Rattle.rack_types.specs.Fields.{values_of}
-use Rattle.rack_types.proofs.FieldLemmas.{IsFieldAt}
+use Rattle.rack_types.proofs.FieldLemmas.{IsFieldAt, values_elsewhere}
 use Rattle.rack_env.specs.Placing.{join_values}
-use Rattle.rack_env.proofs.FieldLemmas.{value_put, values_elsewhere}
+use Rattle.rack_env.proofs.FieldLemmas.{value_put}
 use Rattle.rack_env.proofs.JoinLemmas.{join_values-new}
 use Rattle.rack_env.proofs.content.put_values.Goals as goal
 use Rattle.rack_env.proofs.content.put_values.Goals.{then-same_ignoring_case+in_ok-from_slice+in_ok-join_value, else-same_ignoring_case}

@@ -1,9 +1,9 @@
 use Rattle.std.proofs.Common.{◌≡◌, codes, sym, ap, ◌∙◌, None}
 use Rattle.std.specs.Option.{option_copied}
-use Rattle.rack_types.proofs.FieldLemmas.{IsFieldAt}
+use Rattle.rack_types.proofs.FieldLemmas.{IsFieldAt, values_elsewhere}
 use Rattle.rack_types.specs.Fields.{values_of}
 use Rattle.rack_env.specs.Host.{host_text}
-use Rattle.rack_env.proofs.FieldLemmas.{first_value, values_elsewhere}
+use Rattle.rack_env.proofs.FieldLemmas.{first_value}
 use Rattle.rack_env.proofs.host.host_text.Goals as goal
 
 pub loop-i-preserved : goal.loop-i-preserved

@@ -1,7 +1,7 @@
 use Rattle.std.proofs.Common.{refl, arith, ◌<◌, ◌≤◌, ◌-◌, length, List, ℕ, subst}
 use Rattle.message_framing.specs.Chunks.{NamesSize, NamesNone}
 use Rattle.message_framing.specs.Framing.{body_limit}
-use Rattle.message_framing.proofs.DecodingLemmas.{bad_size_line, over_size_line, last_begins, chunk_begins}
+use Rattle.message_framing.proofs.SizeLineLemmas.{bad_size_line, over_size_line, last_begins, chunk_begins}
 use Rattle.message_framing.proofs.chunks.Chunks.begin_chunk.Goals as goal
 
 pub returns-in_default : goal.returns-in_default

@@ -1,5 +1,6 @@
 use Rattle.std.proofs.Common.{◌≤◌, ◌≡◌, ◌++◌, length, take, arith, refl, ap, ◌∙◌}
-use Rattle.message_framing.proofs.DecodingLemmas.{at_place, data_taken}
+use Rattle.message_framing.proofs.ReaderLemmas.{at_place}
+use Rattle.message_framing.proofs.DataLemmas.{data_taken}
 use Rattle.message_framing.proofs.chunks.Chunks.read_data.Goals as goal
 
 pub returns : goal.returns

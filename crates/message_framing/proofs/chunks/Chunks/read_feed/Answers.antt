@@ -1,5 +1,6 @@
 use Rattle.std.proofs.Common.{arith, refl}
-use Rattle.message_framing.proofs.DecodingLemmas.{at_place, feed_taken, feed_missing}
+use Rattle.message_framing.proofs.ReaderLemmas.{at_place}
+use Rattle.message_framing.proofs.DataLemmas.{feed_taken, feed_missing}
 use Rattle.message_framing.proofs.chunks.Chunks.read_feed.Goals as goal
 
 pub returns-then-piece-ne10 : goal.returns-then-piece-ne10

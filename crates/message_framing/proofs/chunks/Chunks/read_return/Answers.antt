@@ -1,5 +1,6 @@
 use Rattle.std.proofs.Common.{arith, refl}
-use Rattle.message_framing.proofs.DecodingLemmas.{at_place, return_taken, return_missing}
+use Rattle.message_framing.proofs.ReaderLemmas.{at_place}
+use Rattle.message_framing.proofs.DataLemmas.{return_taken, return_missing}
 use Rattle.message_framing.proofs.chunks.Chunks.read_return.Goals as goal
 
 pub returns-then-piece-ne13 : goal.returns-then-piece-ne13

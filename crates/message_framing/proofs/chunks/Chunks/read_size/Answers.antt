@@ -4,7 +4,8 @@ use Rattle.message_framing.specs.Chunks.{size_line_limit}
 use Rattle.message_framing.specs.Decoding.{IsFed, AtSizeLine}
 use Rattle.message_framing.specs.declared.chunks.Chunks.{Chunks}
 use Rattle.message_framing.specs.declared.chunks.Place.TheVariants as place
-use Rattle.message_framing.proofs.DecodingLemmas.{at_place, fed_at, line_goes_on, line_ends, line_is_long, begins_step}
+use Rattle.message_framing.proofs.ReaderLemmas.{at_place, fed_at}
+use Rattle.message_framing.proofs.SizeLineLemmas.{line_goes_on, line_ends, line_is_long, begins_step}
 use Rattle.message_framing.proofs.chunks.Chunks.read_size.Goals as goal
 
 pub returns-in_ok-extend_from_slice-in-Some : goal.returns-in_ok-extend_from_slice-in-Some

@@ -1,5 +1,4 @@
 use Rattle.std.proofs.Common.{◌≤◌, ◌<◌, ◌≡◌, ◌-◌, ◌++◌, List, ℕ, Some, length, take, arith, refl, ap, sym, subst, ◌∙◌, length-take}
-use Rattle.std.proofs.lemmas.List.{take-take}
 use Rattle.message_framing.specs.Chunks.{trailer_limit}
 use Rattle.message_framing.specs.Decoding.{InTrailer}
 use Rattle.message_framing.specs.Body.{IsBody, BodyRefusal}
@@ -9,7 +8,9 @@ use Rattle.message_framing.specs.declared.chunks.Place.TheVariants as place
 use Rattle.message_framing.specs.declared.fields.Framing.TheVariants.{Chunked}
 use Rattle.message_framing.specs.declared.scan.Line.{Line}
 use Rattle.message_framing.proofs.ScanLemmas.{ends_within}
-use Rattle.message_framing.proofs.DecodingLemmas.{at_place, tells_nothing, tells_some, trailer_goes_on, trailer_is_long, IsTrailerEnd, trailer_end_at, body_ends, trailer_refused, refused_in_piece}
+use Rattle.message_framing.proofs.ReaderLemmas.{at_place, refused_in_piece}
+use Rattle.message_framing.proofs.DecodingLemmas.{tells_nothing, tells_some}
+use Rattle.message_framing.proofs.TrailerLemmas.{near_end, trailer_goes_on, trailer_is_long, IsTrailerEnd, trailer_end_at, body_ends, trailer_refused}
 use Rattle.message_framing.proofs.chunks.Chunks.read_trailer.Goals as goal
 
 pub prefix-requires : goal.prefix-requires
@@ -20,19 +21,16 @@ returns-in-None-trailer_fault c =
     let near : List ℕ = c.split_at.result.0.now in
     let n : ℕ = c.in-Some.n in
     let text : List ℕ = c.deref.result.now in
-    let size : length near ≡ c.min.result = ap length c.split_at.ensures.front ∙ length-take c.min.result c.args.piece.now ∙ omega (arith, c.min.ensures) in
-    let room : length near ≤ trailer_limit - length c.args.self.now.text.items = omega (arith, size, c.min.ensures, c.saturating_sub-room.ensures, c.len.ensures) in
     let found : ends c.args.line near ≡ Some n = sym c.in-Some.ensures.end in
-    let inside : n ≤ length near = (ends_within c.args.line near n found).1 in
-    let order : n ≤ c.min.result = omega (arith, size, inside) in
-    let same : take n near ≡ take n c.args.piece.now = ap (take n) c.split_at.ensures.front ∙ take-take n c.min.result c.args.piece.now order in
+    let front = near_end c.args.line c.args.piece.now near c.min.result n c.split_at.ensures.front (omega (arith, c.min.ensures)) found in
+    let room : length near ≤ trailer_limit - length c.args.self.now.text.items = omega (arith, front.size, c.min.ensures, c.saturating_sub-room.ensures, c.len.ensures) in
     let is : text ≡ c.args.self.now.text.items ++ take n near =
     c.deref.ensures.value ∙ (c.in_ok-extend_from_slice-in-Some).ensures.items ∙ ap (λ w. c.args.self.now.text.items ++ w) c.prefix.ensures in (
-      omega (arith, size, inside, c.min.ensures),
+      omega (arith, front.size, front.inside, c.min.ensures),
       λ b fed.
           let h : InTrailer c.args.self.now c.args.line b = at_place _ _ b c.requires.place fed in
           let e : IsTrailerEnd c.args.self.now c.args.line b near text n = trailer_end_at c.args.self.now c.args.line b near text n h found room is in
-          subst (λ (w : List ℕ). IsBody Chunked (b ++ w) c.args.self.now.bytes.items) same
+          subst (λ (w : List ℕ). IsBody Chunked (b ++ w) c.args.self.now.bytes.items) front.same
           (body_ends c.args.self.now c.args.line b near text c.args.self.now.bytes.items n h e is refl c.in-None-trailer_fault.ensures),
     )
 
@@ -41,18 +39,15 @@ returns-in-Some-trailer_fault c = λ b fed.
     let near : List ℕ = c.split_at.result.0.now in
     let n : ℕ = c.in-Some.n in
     let text : List ℕ = c.deref.result.now in
-    let size : length near ≡ c.min.result = ap length c.split_at.ensures.front ∙ length-take c.min.result c.args.piece.now ∙ omega (arith, c.min.ensures) in
-    let room : length near ≤ trailer_limit - length c.args.self.now.text.items = omega (arith, size, c.min.ensures, c.saturating_sub-room.ensures, c.len.ensures) in
     let found : ends c.args.line near ≡ Some n = sym c.in-Some.ensures.end in
-    let inside : n ≤ length near = (ends_within c.args.line near n found).1 in
-    let order : n ≤ c.min.result = omega (arith, size, inside) in
-    let same : take n near ≡ take n c.args.piece.now = ap (take n) c.split_at.ensures.front ∙ take-take n c.min.result c.args.piece.now order in
+    let front = near_end c.args.line c.args.piece.now near c.min.result n c.split_at.ensures.front (omega (arith, c.min.ensures)) found in
+    let room : length near ≤ trailer_limit - length c.args.self.now.text.items = omega (arith, front.size, c.min.ensures, c.saturating_sub-room.ensures, c.len.ensures) in
     let is : text ≡ c.args.self.now.text.items ++ take n near =
     c.deref.ensures.value ∙ (c.in_ok-extend_from_slice-in-Some).ensures.items ∙ ap (λ w. c.args.self.now.text.items ++ w) c.prefix.ensures in
     let h : InTrailer c.args.self.now c.args.line b = at_place _ _ b c.requires.place fed in
     let e : IsTrailerEnd c.args.self.now c.args.line b near text n = trailer_end_at c.args.self.now c.args.line b near text n h found room is in
     refused_in_piece b c.args.piece.now n c.in-Some-trailer_fault.fault
-    (subst (λ (w : List ℕ). BodyRefusal Chunked (b ++ w) c.in-Some-trailer_fault.fault) same
+    (subst (λ (w : List ℕ). BodyRefusal Chunked (b ++ w) c.in-Some-trailer_fault.fault) front.same
     (trailer_refused c.args.self.now c.args.line b near text n c.in-Some-trailer_fault.fault h e is c.in-Some-trailer_fault.ensures))
 
 pub returns-in_ok-extend_from_slice-in-None : goal.returns-in_ok-extend_from_slice-in-None

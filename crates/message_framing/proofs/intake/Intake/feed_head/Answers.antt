@@ -7,7 +7,8 @@ use Rattle.message_framing.specs.declared.standing.Standing.TheVariants as at
 use Rattle.message_framing.specs.Request.{head_limit, Refusal}
 use Rattle.message_framing.specs.Scan.{ends, behind}
 use Rattle.message_framing.proofs.ScanLemmas.{ends_within, ended_behind, behind_append}
-use Rattle.message_framing.proofs.IntakeLemmas.{open_of, completes, goes_on, passes, appended, judged, judged_closed, unended_within, ended_line, holds}
+use Rattle.message_framing.proofs.FeedHeadLemmas.{open_of, completes, goes_on, passes, appended, judged, judged_closed, unended_within, ended_line}
+use Rattle.message_framing.proofs.FedLemmas.{holds}
 use Rattle.message_framing.proofs.intake.Intake.feed_head.Goals as goal
 
 pub prefix-requires : goal.prefix-requires

@@ -1,5 +1,5 @@
 use Rattle.std.proofs.Common.{◌≡◌, false, true}
-use Rattle.message_framing.proofs.IntakeLemmas.{stands_whole, spent_whole, spent_request, not_whole_else}
+use Rattle.message_framing.proofs.FedLemmas.{stands_whole, spent_whole, spent_request, not_whole_else}
 use Rattle.message_framing.proofs.intake.Intake.request.Goals as goal
 
 pub returns-in-Whole-clause-spent : goal.returns-in-Whole-clause-spent

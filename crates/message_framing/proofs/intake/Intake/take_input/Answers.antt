@@ -1,7 +1,7 @@
 use Rattle.std.proofs.Common.{◌≡◌, [], ap, ◌∙◌}
 use Rattle.rack_types.specs.Input.{unread}
 use Rattle.rack_types.specs.Request.{with_body}
-use Rattle.message_framing.proofs.IntakeLemmas.{held_request}
+use Rattle.message_framing.proofs.FedLemmas.{held_request}
 use Rattle.message_framing.proofs.intake.Intake.take_input.Goals as goal
 
 pub returns-clause-first : goal.returns-clause-first

@@ -1,6 +1,7 @@
 use Rattle.std.proofs.Common.{sym, ◌∙◌, subst}
 use Rattle.message_framing.specs.declared.scan.Line.{Line}
-use Rattle.message_framing.proofs.ScanLemmas.{IsScanned, IsReady, scan_is_over, scan_without_feed, ready_at_feed, ready_here, ready_step, ended_behind}
+use Rattle.message_framing.proofs.ScanPieceLemmas.{IsScanned, IsReady, scan_is_over, scan_without_feed, ready_at_feed, ready_here, ready_step}
+use Rattle.message_framing.proofs.ScanLemmas.{ended_behind}
 use Rattle.message_framing.proofs.scan.Line.scan.Goals as goal
 use Rattle.message_framing.proofs.scan.Line.scan.Goals.{in-Text+in-Some, in_default}
 

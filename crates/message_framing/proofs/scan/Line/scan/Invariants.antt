@@ -1,5 +1,5 @@
 use Rattle.std.proofs.Common.{length, ◌-◌}
-use Rattle.message_framing.proofs.ScanLemmas.{IsScanned}
+use Rattle.message_framing.proofs.ScanPieceLemmas.{IsScanned}
 use Rattle.message_framing.proofs.scan.Line.scan.Given as goal
 
 abbrev pub invariant-loop-i : goal.invariant-loop-i
