@@ -1,8 +1,10 @@
 -- The definitions at some values: those of RFC 9110, section 5.6.1, and others.
 use Rattle.std.proofs.Common.{◌≡◌, ◌-◌, ◌^◌, true, false, [], ◌∷◌, Some, None, codes, refl}
+use Rattle.std.specs.Fmt.{digits}
 use Rattle.httparse.specs.Grammar.{is_token, is_token_byte, trim_ows}
 use Rattle.rack_text.specs.Case.{lowered, same_ignoring_case}
 use Rattle.rack_text.specs.Decimal.{is_decimal, decimal_number}
+use Rattle.rack_text.specs.Escaped.{spelled, unescaped}
 use Rattle.rack_text.specs.Host.{is_name_byte, is_address_byte, host_parts, is_valid_host}
 use Rattle.rack_text.specs.Lists.{elements, list_has}
 
@@ -46,3 +48,17 @@ no_hosts : (is_valid_host (codes "h:65536") ≡ false) × (is_valid_host (codes 
     × (is_valid_host (codes "a@b") ≡ false) × (is_valid_host (codes "a b") ≡ false) × (is_valid_host (codes "::1") ≡ false) × (is_valid_host (codes "[g]") ≡ false)
 unfolding host_parts is_name_byte is_address_byte
 no_hosts = (refl, refl, refl, refl, refl, refl, refl, refl, refl, refl, refl, refl)
+
+escaped : (unescaped (codes "\\e") ≡ Some []) × (unescaped (codes "!~") ≡ Some (codes "!~")) × (unescaped (codes "a\\s\\\\") ≡ Some (codes "a \\"))
+    × (unescaped (codes "\\n\\r") ≡ Some (10 ∷ 13 ∷ [])) × (unescaped (codes "\\x00\\xfF") ≡ Some (0 ∷ 255 ∷ []))
+unfolding spelled
+escaped = (refl, refl, refl, refl, refl)
+
+not_escaped : (unescaped [] ≡ None) × (unescaped (codes " ") ≡ None) × (unescaped (127 ∷ []) ≡ None) × (unescaped (codes "\\") ≡ None) × (unescaped (codes "\\t") ≡ None)
+    × (unescaped (codes "\\ea") ≡ None) × (unescaped (codes "a\\e") ≡ None) × (unescaped (codes "\\x4") ≡ None) × (unescaped (codes "\\xg0") ≡ None)
+unfolding spelled
+not_escaped = (refl, refl, refl, refl, refl, refl, refl, refl, refl)
+
+sizes : (digits 16 false 0 ≡ codes "0") × (digits 16 false 65_536 ≡ codes "10000") × (digits 16 false 1_048_575 ≡ codes "fffff")
+unfolding digits
+sizes = (refl, refl, refl)

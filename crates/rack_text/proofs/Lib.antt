@@ -3,3 +3,5 @@ pub mod Computed
 pub mod DecimalLemmas
 pub mod HostLemmas
 pub mod ListLemmas
+mod HexLemmas
+mod EscapedLemmas

@@ -1,4 +1,5 @@
 pub mod Case
 pub mod Decimal
+pub mod Escaped
 pub mod Host
 pub mod Lists

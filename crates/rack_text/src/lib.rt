@@ -1,15 +1,20 @@
-//! Readers of the short texts that messages are made of: decimal numbers, tokens, words whose case
-//! does not count, lists with commas, and hosts. None takes memory.
+//! The short texts that messages and files are made of: decimal numbers, tokens, words whose case does
+//! not count, lists with commas, and hosts, which are read without memory; and numbers and escaped
+//! texts, which are written and read into a list of bytes.
 #![tactic(auto)]
 
 mod decimal;
+mod escaped;
 mod host;
 mod list;
+mod number;
 mod word;
 
 pub use decimal::{is_decimal, read_decimal};
+pub use escaped::unescape;
 pub use host::{Host, read_host};
 pub use list::{ListElements, elements, list_has};
+pub use number::{write_decimal, write_hex};
 pub use word::{is_token, same_ignoring_case};
 
 #[cfg(test)]

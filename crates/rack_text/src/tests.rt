@@ -1,4 +1,5 @@
 use super::*;
+use std::alloc::AllocError;
 
 #[test]
 fn reads_decimal_numbers(rt: HostRuntime) {
@@ -168,4 +169,64 @@ fn reads_hosts(rt: HostRuntime) {
     ] {
         assert_eq!(rt; read_host(text.as_bytes()), None, "{text}");
     }
+}
+
+#[test]
+fn writes_numbers(rt: HostRuntime) -> Result<(), AllocError> {
+    let mut out = Vec::new(rt.alloc());
+    for (number, decimal) in [
+        (0, "0"),
+        (10_000, "10000"),
+        (u128::MAX, "340282366920938463463374607431768211455"),
+    ] {
+        out.clear();
+        write_decimal(number, &mut out)?;
+        assert_eq!(rt; out.as_slice(), decimal.as_bytes());
+    }
+    for (number, hex) in [
+        (0, "0"),
+        (9, "9"),
+        (10, "a"),
+        (255, "ff"),
+        (65_536, "10000"),
+        (u64::MAX, "ffffffffffffffff"),
+    ] {
+        out.clear();
+        write_hex(number, &mut out)?;
+        assert_eq!(rt; out.as_slice(), hex.as_bytes());
+    }
+    Ok(())
+}
+
+#[test]
+fn unescapes_words(rt: HostRuntime) -> Result<(), AllocError> {
+    for (word, text) in [
+        ("\\e", Some("")),
+        ("!~", Some("!~")),
+        ("a\\sb\\n\\r\\\\", Some("a b\n\r\\")),
+        ("\\x41\\x0a\\x0A\\x7e", Some("A\n\n~")),
+        ("\\s\\xc3\\xa9", Some(" é")),
+        ("", None),
+        ("a b", None),
+        ("a\u{7f}", None),
+        ("é", None),
+        ("\\", None),
+        ("a\\", None),
+        ("\\t", None),
+        ("\\ea", None),
+        ("a\\e", None),
+        ("\\x4", None),
+        ("\\xg0", None),
+        ("\\x0G", None),
+    ] {
+        let mut out = Vec::from_slice(rt.alloc(), b"#")?;
+        assert_eq!(rt;
+            unescape(word.as_bytes(), &mut out)?,
+            text.is_some(),
+            "{word}"
+        );
+        assert_eq!(rt; out[0], b'#', "{word}");
+        assert_eq!(rt; &out[1..], text.unwrap_or("").as_bytes(), "{word}");
+    }
+    Ok(())
 }
