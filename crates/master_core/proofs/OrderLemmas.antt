@@ -1,7 +1,8 @@
 -- Each order has one answer.
-use Rattle.std.proofs.Common.{◌≡◌, ◌≢◌, ℕ, ◌+◌, Bool, true, false, Option, None, Some, refl, sym, ◌∙◌, ap}
+use Rattle.std.proofs.Common.{◌≡◌, ◌≢◌, ℕ, ◌+◌, Bool, true, false, ◌||◌, Option, None, Some, refl, sym, ◌∙◌, ap}
+use Rattle.std.specs.Prelude.{◌==◌}
 use Rattle.master_core.specs.State.{MasterState}
-use Rattle.master_core.specs.Orders.{Orders, busy_with, behind_stop, behind_halt}
+use Rattle.master_core.specs.Orders.{Orders, busy_with, is_ended, phase_before, last_phase, behind_stop, behind_halt}
 use Rattle.master_core.specs.declared.loader.Load.{Load}
 use Rattle.master_core.specs.declared.loader.Load.TheVariants.{Read, Bad, Absent, Long, Failed}
 use Rattle.master_core.specs.declared.order.Order.{Order}
@@ -55,3 +56,11 @@ pub orders_some : (m : MasterState) (o : Order) → (r : Reply) × (n : MasterSt
 orders_some m (Phased load) = phased_right (busy_with m) load m refl
 orders_some m Stop = (Taken m.target, record m { ending = behind_stop m.ending }, (refl, refl))
 orders_some m Halt = (Taken m.target, record m { ending = behind_halt m.ending }, (refl, refl))
+
+ended_first : (b c d : Bool) → c ≡ true → (b || c || d) ≡ true
+ended_first true c d e = refl
+ended_first false c d e = rw e
+
+-- once stop or halt was ordered a phased order finds the master busy
+pub ended_is_busy : (m : MasterState) → is_ended m.ending ≡ true → busy_with m ≡ Some (phase_before m, m.target)
+ended_is_busy m e = rw (ended_first m.phased (is_ended m.ending) (m.target == last_phase) e)

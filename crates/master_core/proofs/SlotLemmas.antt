@@ -86,7 +86,7 @@ lifted_is_some None = refl
 lifted_is_some (Some i) = refl
 
 any_step : (p : Slot → Bool) (x : Slot) (xs : List Slot) (b : Bool) → p x ≡ b → is_some (position p xs) ≡ list_any p xs → is_some (position p (x ∷ xs)) ≡ list_any p (x ∷ xs)
-any_step p x xs true e ih = rw (e, ap is_some (position_first p x xs e))
+any_step p x xs true e ih = ap is_some (position_first p x xs e) ∙ sym (rw e)
 any_step p x xs false e ih = ap is_some (position_later p x xs e) ∙ lifted_is_some (position p xs) ∙ ih ∙ sym (rw e)
 
 -- a slot passes exactly where there is a lowest one
@@ -94,7 +94,8 @@ pub position_any : (p : Slot → Bool) (xs : List Slot) → is_some (position p 
 position_any p [] = refl
 position_any p (x ∷ xs) = any_step p x xs (p x) refl (position_any p xs)
 
-is_none : (o : Option ℕ) → is_some o ≡ false → o ≡ None
+-- no answer
+pub is_none : (o : Option ℕ) → is_some o ≡ false → o ≡ None
 is_none None e = refl
 is_none (Some i) e = absurd (cc)
 
