@@ -1,6 +1,6 @@
 -- The states that orders and steps lead to while neither stop nor halt is ordered.
 use Rattle.std.proofs.Common.{◌≡◌, ℕ, zero, suc, ◌+◌, ◌≤◌, List, [], ◌∷◌, ◌++◌, Bool, true, false, Option, None, Some, refl, sym, ◌∙◌, ap, subst, arith, ◌⊎◌, inl, inr, append-nil}
-use Rattle.std.specs.Prelude.{position, slice_get, slice_set, replicate}
+use Rattle.std.specs.Prelude.{position, slice_get, slice_set, replicate, option_and_then}
 use Rattle.std.specs.Option.{is_some}
 use Rattle.std.specs.List.{list_any}
 use Rattle.master_core.specs.declared.slot.Slot.{Slot}
@@ -14,11 +14,11 @@ use Rattle.master_core.specs.declared.order.Reply.{Reply}
 use Rattle.master_core.specs.declared.order.Reply.TheVariants.{Taken, Busy, Refused}
 use Rattle.master_core.specs.declared.order.Act.{Act}
 use Rattle.master_core.specs.declared.order.Act.TheVariants.{Rest, Drain, Start}
-use Rattle.master_core.specs.Slots.{is_vacant, is_serving, is_draining, is_below}
+use Rattle.master_core.specs.Slots.{is_vacant, is_serving, is_draining, is_below, phase_of}
 use Rattle.master_core.specs.State.{MasterState, with_slot}
 use Rattle.master_core.specs.Orders.{Orders, busy_with, is_ended}
 use Rattle.master_core.specs.Steps.{Steps, MayBeGone, started, without}
-use Rattle.master_core.specs.Runs.{Leads, LeadsBy, IsReachable, away}
+use Rattle.master_core.specs.Runs.{Leads, LeadsBy, IsReachable, away, phase_at}
 use Rattle.master_core.proofs.ShapeLemmas.{any_replicate, nowhere, first_at, any_at, slot_at, put_at, shift, none_drains, drains_only_at, none_away, one_away, below_next, not_below_own}
 use Rattle.master_core.proofs.StepLemmas.{steps_one}
 use Rattle.master_core.proofs.EndLemmas.{ended_orders, ended_steps, stop_ends, halt_ends}
@@ -44,17 +44,19 @@ pub step_rests : (n t : ℕ) → Steps (at_rest n t) None Rest (at_rest n t)
 step_rests n t = refl
 
 pub step_drains : (a b p : ℕ) → Steps (at_work (replaced a (Serving p) b p) p) None (Drain a) (at_work (replaced a (Draining p) b p) p)
-step_drains a b p =
-    ( nowhere is_vacant a b (Serving (suc p)) (Serving p) (Serving p) refl refl refl
-    , nowhere is_draining a b (Serving (suc p)) (Serving p) (Serving p) refl refl refl
-    , first_at (is_below (suc p)) a (Serving (suc p)) (Serving p) _ (not_below_own (suc p)) (below_next p)
-    , (p, slot_at a (Serving (suc p)) (Serving p) _, ap (λ s. at_work s p) (sym (put_at a (Serving (suc p)) (Serving p) (Draining p) _))))
+step_drains a b p = (
+  nowhere is_vacant a b (Serving (suc p)) (Serving p) (Serving p) refl refl refl,
+  nowhere is_draining a b (Serving (suc p)) (Serving p) (Serving p) refl refl refl,
+  first_at (is_below (suc p)) a (Serving (suc p)) (Serving p) _ (not_below_own (suc p)) (below_next p),
+  (p, slot_at a (Serving (suc p)) (Serving p) _, ap (λ s. at_work s p) (sym (put_at a (Serving (suc p)) (Serving p) (Draining p) _))),
+)
 
 pub step_waits : (a b p : ℕ) → Steps (at_work (replaced a (Draining p) b p) p) None Rest (at_work (replaced a (Draining p) b p) p)
-step_waits a b p =
-    ( nowhere is_vacant a b (Serving (suc p)) (Draining p) (Serving p) refl refl refl
-    , inl (ap (λ o. is_some o) (first_at is_draining a (Serving (suc p)) (Draining p) _ refl refl))
-    , refl)
+step_waits a b p = (
+  nowhere is_vacant a b (Serving (suc p)) (Draining p) (Serving p) refl refl refl,
+  inl (ap (λ o. is_some o) (first_at is_draining a (Serving (suc p)) (Draining p) _ refl refl)),
+  refl,
+)
 
 -- these slots once one of them was started
 abbrev behind_start : ℕ → List Slot → MasterState
@@ -164,3 +166,49 @@ away_sound m (inr ended) e = let f = ap is_ended e in absurd (cc)
 
 pub at_most_one_away : (m : MasterState) → IsReachable m → m.ending ≡ ending.NotOrdered → away m ≤ 1
 at_most_one_away m reachable e = away_sound m (reachable_sound m reachable) e
+
+-- the phases of slots that serve, and of one among them
+alike : (n t i q : ℕ) → option_and_then phase_of (slice_get (replicate n (Serving t)) i) ≡ Some q → q ≡ t
+alike zero t i q e = absurd (cc)
+alike (suc n) t zero q e = cc
+alike (suc n) t (suc i) q e = alike n t i q e
+
+one_apart : (a b p i q : ℕ) (x : Slot) → phase_of x ≡ Some p → option_and_then phase_of (slice_get (replaced a x b p) i) ≡ Some q → (q ≡ p) ⊎ (q ≡ suc p)
+one_apart zero b p zero q x f e = inl (cc)
+one_apart zero b p (suc i) q x f e = inl (alike b p i q e)
+one_apart (suc a) b p zero q x f e = inr (cc)
+one_apart (suc a) b p (suc i) q x f e = one_apart a b p i q x f e
+
+-- a phase is near a target that is one above p
+near_by : (p q : ℕ) → (q ≡ p) ⊎ (q ≡ suc p) → (q ≤ suc p) × (suc p ≤ q + 1)
+near_by p q (inl e) = (omega arith, omega arith)
+near_by p q (inr e) = (omega arith, omega arith)
+
+near_calm : (m : MasterState) (i q : ℕ) → Calm m → phase_at m i ≡ Some q → (q ≤ m.target) × (m.target ≤ q + 1)
+near_calm m i q (rests b t) e = let same = alike (suc b) t i q e in (omega arith, omega arith)
+near_calm m i q (serves a b p) e = near_by p q (one_apart a b p i q (Serving p) refl e)
+near_calm m i q (drains a b p) e = near_by p q (one_apart a b p i q (Draining p) refl e)
+
+near_sound : (m : MasterState) (i q : ℕ) → Sound m → m.ending ≡ ending.NotOrdered → phase_at m i ≡ Some q → (q ≤ m.target) × (m.target ≤ q + 1)
+near_sound m i q (inl calm) free e = near_calm m i q calm e
+near_sound m i q (inr ended) free e = let f = ap is_ended free in absurd (cc)
+
+-- each phase is the target or the one before it
+pub phases_are_near : (m : MasterState) (i q : ℕ) → IsReachable m → m.ending ≡ ending.NotOrdered → phase_at m i ≡ Some q → (q ≤ m.target) × (m.target ≤ q + 1)
+phases_are_near m i q reachable free e = near_sound m i q (reachable_sound m reachable) free e
+
+drains_calm : (m : MasterState) (i q : ℕ) → Calm m → slice_get m.slots i ≡ Some (Draining q) → m.target ≡ q + 1
+drains_calm m i q (rests b t) at = absurd (none_drains (suc b) t i q at)
+drains_calm m i q (serves a b p) at = let only = drains_only_at a b (suc p) p i q (Serving p) at in absurd (cc)
+drains_calm m i q (drains a b p) at =
+    let only = drains_only_at a b (suc p) p i q (Draining p) at in
+    let same : p ≡ q = cc in
+    omega arith
+
+drains_sound : (m : MasterState) (i q : ℕ) → Sound m → m.ending ≡ ending.NotOrdered → slice_get m.slots i ≡ Some (Draining q) → m.target ≡ q + 1
+drains_sound m i q (inl calm) free at = drains_calm m i q calm at
+drains_sound m i q (inr ended) free at = let f = ap is_ended free in absurd (cc)
+
+-- the slot that drains for a phased order is of the phase before the target
+pub draining_is_before : (m : MasterState) (i q : ℕ) → IsReachable m → m.ending ≡ ending.NotOrdered → slice_get m.slots i ≡ Some (Draining q) → m.target ≡ q + 1
+draining_is_before m i q reachable free at = drains_sound m i q (reachable_sound m reachable) free at

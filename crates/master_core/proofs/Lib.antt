@@ -6,3 +6,4 @@ pub mod CalmLemmas
 pub mod EndLemmas
 pub mod PhaseLemmas
 pub mod RestartLemmas
+pub mod CallerLemmas

@@ -73,7 +73,7 @@ one_of false n e = omega arith
 pub one_away : (a b t q : ℕ) (x : Slot) → count_by (λ slot. not (is_serving slot)) (replicate a (Serving t) ++ x ∷ replicate b (Serving q)) ≤ 1
 one_away a b t q x =
     rw (away_behind a t (x ∷ replicate b (Serving q)), sum_by-append (λ slot. cond (not (is_serving slot)) 1 0) (x ∷ []) (replicate b (Serving q)))
-        (one_of (not (is_serving x)) (count_by (λ slot. not (is_serving slot)) (replicate b (Serving q))) (none_away b q))
+    (one_of (not (is_serving x)) (count_by (λ slot. not (is_serving slot)) (replicate b (Serving q))) (none_away b q))
 
 pub below_next : (p : ℕ) → is_below (suc p) (Serving p) ≡ true
 below_next p = grind (arith, nat_tests)

@@ -1,5 +1,5 @@
 // Laws over the definitions. A function without a result does nothing: its contract is the law.
-ghost use Rattle.std.specs.Prelude.{◌≡◌, ℕ, ◌*◌, ◌<◌, ◌≤◌, true, Option, Some, length, position, replicate};
+ghost use Rattle.std.specs.Prelude.{◌≡◌, ℕ, ◌+◌, ◌*◌, ◌<◌, ◌≤◌, true, Option, Some, length, position, replicate, slice_get};
 ghost use Rattle.master_core.specs.Slots.{is_vacant, is_draining};
 ghost use Rattle.master_core.specs.State.{MasterState, EachSlot};
 ghost use Rattle.master_core.specs.Orders.{Orders, is_ended};
@@ -13,7 +13,7 @@ ghost use Rattle.master_core.specs.declared.order.Reply.{Reply};
 ghost use Rattle.master_core.specs.declared.order.Reply.TheVariants.{Taken};
 ghost use Rattle.master_core.specs.declared.order.Act.{Act};
 ghost use Rattle.master_core.specs.declared.order.Act.TheVariants.{Start, Finish};
-ghost use Rattle.master_core.specs.declared.slot.Slot.TheVariants.{Serving};
+ghost use Rattle.master_core.specs.declared.slot.Slot.TheVariants.{Serving, Draining};
 
 /// To each order there is an answer, and one alone, with one state of the master behind it.
 pub fn one_order_is_right()
@@ -32,6 +32,13 @@ pub fn one_step_is_right()
 /// came before.
 pub fn at_most_one_slot_is_away()
     ensures { (m : MasterState) → IsReachable m → m.ending ≡ NotOrdered → away m ≤ 1 }
+{}
+
+/// While neither stop nor halt is ordered, the phase of each slot is the target or the one before it, and
+/// a slot that drains is of the one before.
+pub fn phases_are_one_apart()
+    ensures near { (m : MasterState) (i p : ℕ) → IsReachable m → m.ending ≡ NotOrdered → phase_at m i ≡ Some p → (p ≤ m.target) × (m.target ≤ p + 1) }
+    ensures draining { (m : MasterState) (i p : ℕ) → IsReachable m → m.ending ≡ NotOrdered → slice_get m.slots i ≡ Some (Draining p) → m.target ≡ p + 1 }
 {}
 
 /// A phased order that is taken comes to its end. Where each slot that drains is gone by the next step,

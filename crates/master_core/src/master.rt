@@ -2,7 +2,7 @@
 ghost use Rattle.std.specs.Prelude.{◌≡◌, ◌<◌, ◌≤◌, true, length, slice_get, Some, IfOk};
 
 use crate::order::Ending;
-use crate::slot::{all_vacant, first_draining, first_below, first_serving, first_vacant, tell_all};
+use crate::slot::{all_vacant, first_below, first_draining, first_serving, first_vacant, tell_all};
 use crate::{Act, Load, NoMemory, Order, Reply, Slot};
 use std::alloc::Global;
 use std::marker::Model;
@@ -169,7 +169,11 @@ impl Master {
     fn phase_before(&self) -> u32
         ensures { result ≡ phase_before self.now }
     {
-        if self.phased { self.target - 1 } else { self.target }
+        if self.phased {
+            self.target - 1
+        } else {
+            self.target
+        }
     }
 
     // What a step asks for while a phased order isn't done.

@@ -26,14 +26,18 @@ pub(crate) fn first_vacant(slots: &[Slot]) -> Option<usize>
 pub(crate) fn first_serving(slots: &[Slot]) -> Option<usize>
     ensures { result ≡ position is_serving slots.now }
 {
-    slots.iter().position(|slot| matches!(slot, Slot::Serving(_)))
+    slots
+        .iter()
+        .position(|slot| matches!(slot, Slot::Serving(_)))
 }
 
 // The lowest slot that drains.
 pub(crate) fn first_draining(slots: &[Slot]) -> Option<usize>
     ensures { result ≡ position is_draining slots.now }
 {
-    slots.iter().position(|slot| matches!(slot, Slot::Draining(_)))
+    slots
+        .iter()
+        .position(|slot| matches!(slot, Slot::Draining(_)))
 }
 
 // The lowest slot whose phase is lower than this one. A vacant slot has none.

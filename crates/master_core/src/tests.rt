@@ -33,10 +33,6 @@ fn gone(slot: u8, act: Act) -> (Event, Said) {
     (Event::Step(Some(slot)), Said::Act(act))
 }
 
-fn drains(slot: Slot) -> bool {
-    matches!(slot, Slot::Draining(_))
-}
-
 fn next(master: &mut Master, slots: u8, event: Event) -> Said
     requires { length master.old.slots ≡ slots }
     ensures { length master.new.slots ≡ slots }
@@ -45,7 +41,9 @@ fn next(master: &mut Master, slots: u8, event: Event) -> Said
         Event::Order(order) => Said::Reply(master.order(order)),
         Event::Step(None) => Said::Act(master.step(None)),
         Event::Step(Some(i)) => {
-            if i < slots && drains(master.slot(i)) {
+            if i < slots
+                && let Slot::Draining(_) = master.slot(i)
+            {
                 Said::Act(master.step(Some(i)))
             } else {
                 Said::Nothing
@@ -72,10 +70,22 @@ fn one_slot_is_replaced_and_stopped(rt: HostRuntime) -> Result<(), Fail> {
     let run = [
         stepped(Rest),
         ordered(Phased(Load::Read), Taken(1)),
-        ordered(Phased(Load::Read), Busy { phase: 0, target: 1 }),
+        ordered(
+            Phased(Load::Read),
+            Busy {
+                phase: 0,
+                target: 1,
+            },
+        ),
         stepped(Drain(0)),
         stepped(Rest),
-        ordered(Phased(bad), Busy { phase: 0, target: 1 }),
+        ordered(
+            Phased(bad),
+            Busy {
+                phase: 0,
+                target: 1,
+            },
+        ),
         gone(0, Start(0, 1)),
         stepped(Rest),
         ordered(Phased(bad), Refused(bad)),
@@ -84,7 +94,13 @@ fn one_slot_is_replaced_and_stopped(rt: HostRuntime) -> Result<(), Fail> {
         stepped(Drain(0)),
         gone(0, Start(0, 2)),
         ordered(Stop, Taken(2)),
-        ordered(Phased(Load::Read), Busy { phase: 2, target: 2 }),
+        ordered(
+            Phased(Load::Read),
+            Busy {
+                phase: 2,
+                target: 2,
+            },
+        ),
         stepped(Drain(0)),
         stepped(Rest),
         gone(0, Finish),
@@ -100,11 +116,23 @@ fn two_slots_are_ended_in_the_middle(rt: HostRuntime) -> Result<(), Fail> {
         ordered(Phased(Load::Read), Taken(1)),
         stepped(Drain(0)),
         ordered(Stop, Taken(1)),
-        ordered(Phased(Load::Read), Busy { phase: 0, target: 1 }),
+        ordered(
+            Phased(Load::Read),
+            Busy {
+                phase: 0,
+                target: 1,
+            },
+        ),
         stepped(Drain(1)),
         gone(1, Rest),
         ordered(Halt, Taken(1)),
-        ordered(Phased(Load::Long), Busy { phase: 0, target: 1 }),
+        ordered(
+            Phased(Load::Long),
+            Busy {
+                phase: 0,
+                target: 1,
+            },
+        ),
         stepped(HaltAll),
         ordered(Halt, Taken(1)),
         stepped(Rest),
@@ -121,7 +149,13 @@ fn two_slots_are_ended_in_the_middle(rt: HostRuntime) -> Result<(), Fail> {
         gone(1, HaltAll),
         stepped(Rest),
         gone(0, Finish),
-        ordered(Phased(Load::Read), Busy { phase: 0, target: 1 }),
+        ordered(
+            Phased(Load::Read),
+            Busy {
+                phase: 0,
+                target: 1,
+            },
+        ),
     ];
     assert_eq!(rt; differs(Master::new(rt.alloc(), 2)?, 2, &halted), None);
     Ok(())
@@ -132,7 +166,13 @@ fn sixteen_slots_are_replaced_in_their_order(rt: HostRuntime) -> Result<(), Fail
     let mut run = Vec::new(rt.alloc());
     run.push(ordered(Phased(Load::Read), Taken(1)))?;
     for i in 0..16u8 {
-        run.push(ordered(Phased(Load::Read), Busy { phase: 0, target: 1 }))?;
+        run.push(ordered(
+            Phased(Load::Read),
+            Busy {
+                phase: 0,
+                target: 1,
+            },
+        ))?;
         run.push(stepped(Drain(i)))?;
         run.push(gone(i, Start(i, 1)))?;
     }
@@ -143,7 +183,10 @@ fn sixteen_slots_are_replaced_in_their_order(rt: HostRuntime) -> Result<(), Fail
         run.push(gone(i, Rest))?;
     }
     run.push(gone(15, Finish))?;
-    assert_eq!(rt; differs(Master::new(rt.alloc(), 16)?, 16, run.as_slice()), None);
+    assert_eq!(rt;
+        differs(Master::new(rt.alloc(), 16)?, 16, run.as_slice()),
+        None
+    );
     Ok(())
 }
 
@@ -155,13 +198,19 @@ fn no_phase_follows_the_greatest(rt: HostRuntime) -> Result<(), Fail> {
         gone(0, Start(0, 4_294_967_295)),
         ordered(
             Phased(Load::Read),
-            Busy { phase: 4_294_967_294, target: 4_294_967_295 },
+            Busy {
+                phase: 4_294_967_294,
+                target: 4_294_967_295,
+            },
         ),
         stepped(Drain(1)),
         gone(1, Start(1, 4_294_967_295)),
         ordered(
             Phased(Load::Absent),
-            Busy { phase: 4_294_967_295, target: 4_294_967_295 },
+            Busy {
+                phase: 4_294_967_295,
+                target: 4_294_967_295,
+            },
         ),
         ordered(Stop, Taken(4_294_967_295)),
         stepped(Drain(0)),
@@ -222,7 +271,12 @@ fn a_loader_is_asked_for_each_order(rt: HostRuntime) -> Result<(), Fail> {
         (Load::Read, Taken(1)),
     ] {
         let mut master = Master::new(rt.alloc(), 1)?;
-        let mut loader = SameLoad { load, answered: None, loads: 0, faults: 0 };
+        let mut loader = SameLoad {
+            load,
+            answered: None,
+            loads: 0,
+            faults: 0,
+        };
         assert_eq!(rt; order_loaded(&mut master, &mut loader)?, reply);
         assert_eq!(rt; loader.loads, 1);
     }

@@ -15,6 +15,6 @@ returns-clause-starts c =
     let own = c.self.inside in
     let slots = slice_set own.slots.items c.args.i (Serving own.target) in
     let some : c.is_some-self-inside.result ≡ list_any (is_below own.target) slots =
-        c.is_some-self-inside.ensures ∙ ap (λ o. is_some o) c.first_below.ensures ∙ ap (λ xs. is_some (position (is_below own.target) xs)) c.deref.ensures.value ∙ position_any (is_below own.target) slots in
+    c.is_some-self-inside.ensures ∙ ap (λ o. is_some o) c.first_below.ensures ∙ ap (λ xs. is_some (position (is_below own.target) xs)) c.deref.ensures.value ∙ position_any (is_below own.target) slots in
     let F : Bool → MasterState = λ (b : Bool). record { slots = slots; target = own.target; phased = b; ending = own.ending } in
     rw (← c.self.view_is) (ap F some)

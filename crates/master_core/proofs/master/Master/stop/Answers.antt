@@ -6,5 +6,5 @@ use Rattle.master_core.proofs.master.Master.stop.Goals as goal
 pub drain-requires : goal.drain-requires
 drain-requires c =
     let e : position is_serving c.args.self.now.slots ≡ Some c.in-Some.i =
-        rw (← c.self.view_is, ← c.deref.ensures.value, ← c.first_serving.ensures) c.in-Some.is in
+    rw (← c.self.view_is, ← c.deref.ensures.value, ← c.first_serving.ensures) c.in-Some.is in
     serving_there _ _ e
