@@ -1,6 +1,6 @@
 -- What crates above may cite: lemmas over the public definitions of this crate.
-use Rattle.std.proofs.Common.{◌≡◌, ℕ, zero, suc, ◌+◌, ◌≤◌, List, [], ◌∷◌, length, Bool, true, false, Option, None, Some, refl, sym, ◌∙◌, ap, subst, arith, inl, inr, map}
-use Rattle.std.specs.Prelude.{slice_get, slice_set, replicate}
+use Rattle.std.proofs.Common.{◌≡◌, ℕ, suc, ◌≤◌, length, Bool, true, false, Option, None, Some, refl, ◌∙◌, ap, inl, inr}
+use Rattle.std.specs.Prelude.{slice_get}
 use Rattle.std.proofs.lemmas.List.{length-set, length-map}
 use Rattle.master_core.specs.declared.slot.Slot.{Slot}
 use Rattle.master_core.specs.declared.slot.Slot.TheVariants.{Vacant, Serving, Draining}
@@ -13,22 +13,22 @@ use Rattle.master_core.specs.declared.order.Reply.TheVariants.{Taken, Busy, Refu
 use Rattle.master_core.specs.declared.order.Act.{Act}
 use Rattle.master_core.specs.declared.order.Act.TheVariants.{Rest, Drain, Start, HaltAll, Finish}
 use Rattle.master_core.specs.Slots.{is_vacant, told}
-use Rattle.master_core.specs.State.{MasterState, begun, with_slot, IsDrainingAt}
-use Rattle.master_core.specs.Orders.{Orders, is_ended, busy_with}
-use Rattle.master_core.specs.Steps.{Steps, Goes, Drains, MayBeGone, without}
-use Rattle.master_core.specs.Runs.{Leads, LeadsBy, LeadsTo, IsReachable, phase_at}
+use Rattle.master_core.specs.State.{MasterState, new_master}
+use Rattle.master_core.specs.Orders.{TakesOrder}
+use Rattle.master_core.specs.Steps.{MakesStep, Goes, Drains, MayBeGone, without}
+use Rattle.master_core.specs.Runs.{Leads, LeadsTo, IsReachable}
 use Rattle.master_core.proofs.SlotLemmas.{position_passes}
 use Rattle.master_core.proofs.OrderLemmas.{orders_one}
 use Rattle.master_core.proofs.StepLemmas.{steps_one}
 
 -- an order leaves the slots as they are
-pub slots-Orders : (m n : MasterState) (o : Order) (r : Reply) → Orders m o r n → n.slots ≡ m.slots
-slots-Orders m n (Phased load) (Busy p t) h = ap (λ k. k.slots) h.1
-slots-Orders m n (Phased load) (Refused refused) h = ap (λ k. k.slots) h.3
-slots-Orders m n (Phased load) (Taken t) h = ap (λ k. k.slots) h.3
-slots-Orders m n Stop (Taken t) h = ap (λ k. k.slots) h.1
-slots-Orders m n Halt (Taken t) h = ap (λ k. k.slots) h.1
-slots-Orders m n o r h = absurd h
+pub slots-TakesOrder : (m n : MasterState) (o : Order) (r : Reply) → TakesOrder m o r n → n.slots ≡ m.slots
+slots-TakesOrder m n (Phased load) (Busy p t) h = ap (λ k. k.slots) h.1
+slots-TakesOrder m n (Phased load) (Refused refused) h = ap (λ k. k.slots) h.3
+slots-TakesOrder m n (Phased load) (Taken t) h = ap (λ k. k.slots) h.3
+slots-TakesOrder m n Stop (Taken t) h = ap (λ k. k.slots) h.1
+slots-TakesOrder m n Halt (Taken t) h = ap (λ k. k.slots) h.1
+slots-TakesOrder m n o r h = absurd h
 
 length-without : (m : MasterState) (gone : Option ℕ) → length (without m gone).slots ≡ length m.slots
 length-without m None = refl
@@ -51,29 +51,29 @@ length-Goes ending.Halted phased Rest m n h = ap (λ k. length k.slots) h.1
 length-Goes e phased a m n h = absurd h
 
 -- a step keeps the number of slots
-pub length-Steps : (m n : MasterState) (gone : Option ℕ) (a : Act) → Steps m gone a n → length n.slots ≡ length m.slots
-length-Steps m n gone a s = length-Goes m.ending m.phased a (without m gone) n s ∙ length-without m gone
+pub length-MakesStep : (m n : MasterState) (gone : Option ℕ) (a : Act) → MakesStep m gone a n → length n.slots ≡ length m.slots
+length-MakesStep m n gone a s = length-Goes m.ending m.phased a (without m gone) n s ∙ length-without m gone
 
 -- an order has one answer, and one master behind it
-pub one-Orders : (m n k : MasterState) (o : Order) (r s : Reply) → Orders m o r n → Orders m o s k → (r ≡ s) × (n ≡ k)
-one-Orders m n k o r s h g = orders_one m n k o r s h g
+pub one-TakesOrder : (m n k : MasterState) (o : Order) (r s : Reply) → TakesOrder m o r n → TakesOrder m o s k → (r ≡ s) × (n ≡ k)
+one-TakesOrder m n k o r s h g = orders_one m n k o r s h g
 
 -- a step has one act, and one master behind it
-pub one-Steps : (m n k : MasterState) (gone : Option ℕ) (a b : Act) → Steps m gone a n → Steps m gone b k → (a ≡ b) × (n ≡ k)
-one-Steps m n k gone a b s w = steps_one m n k gone a b s w
+pub one-MakesStep : (m n k : MasterState) (gone : Option ℕ) (a b : Act) → MakesStep m gone a n → MakesStep m gone b k → (a ≡ b) × (n ≡ k)
+one-MakesStep m n k gone a b s w = steps_one m n k gone a b s w
 
 -- a new master is reachable, and so is what an order or a step leads to
-pub reachable-begun : (slots : ℕ) → 1 ≤ slots → slots ≤ 16 → IsReachable (begun slots)
-reachable-begun slots some few = (slots, some, few, (0, refl))
+pub reachable-new : (slots : ℕ) → 1 ≤ slots → slots ≤ 16 → IsReachable (new_master slots)
+reachable-new slots some few = (slots, some, few, (0, refl))
 
 leads-further : (m n k : MasterState) → LeadsTo m n → Leads n k → LeadsTo m k
 leads-further m n k (count, by) last = (suc count, (n, by, last))
 
-pub reachable-Orders : (m n : MasterState) (o : Order) (r : Reply) → IsReachable m → Orders m o r n → IsReachable n
-reachable-Orders m n o r (slots, some, few, leads) h = (slots, some, few, leads-further (begun slots) m n leads (inl (o, r, h)))
+pub reachable-TakesOrder : (m n : MasterState) (o : Order) (r : Reply) → IsReachable m → TakesOrder m o r n → IsReachable n
+reachable-TakesOrder m n o r (slots, some, few, leads) h = (slots, some, few, leads-further (new_master slots) m n leads (inl (o, r, h)))
 
-pub reachable-Steps : (m n : MasterState) (gone : Option ℕ) (a : Act) → IsReachable m → MayBeGone m gone → Steps m gone a n → IsReachable n
-reachable-Steps m n gone a (slots, some, few, leads) may s = (slots, some, few, leads-further (begun slots) m n leads (inr (gone, a, may, s)))
+pub reachable-MakesStep : (m n : MasterState) (gone : Option ℕ) (a : Act) → IsReachable m → MayBeGone m gone → MakesStep m gone a n → IsReachable n
+reachable-MakesStep m n gone a (slots, some, few, leads) may s = (slots, some, few, leads-further (new_master slots) m n leads (inr (gone, a, may, s)))
 
 -- a slot that a step starts is vacant once the gone one is, and starts in the target
 vacant_as : (x : Slot) → is_vacant x ≡ true → x ≡ Vacant
@@ -94,8 +94,8 @@ target-without : (m : MasterState) (gone : Option ℕ) → (without m gone).targ
 target-without m None = refl
 target-without m (Some i) = refl
 
-pub start-Steps : (m n : MasterState) (gone : Option ℕ) (i phase : ℕ) → Steps m gone (Start i phase) n → (slice_get (without m gone).slots i ≡ Some Vacant) × (phase ≡ m.target)
-start-Steps m n gone i phase s =
+pub start-MakesStep : (m n : MasterState) (gone : Option ℕ) (i phase : ℕ) → MakesStep m gone (Start i phase) n → (slice_get (without m gone).slots i ≡ Some Vacant) × (phase ≡ m.target)
+start-MakesStep m n gone i phase s =
     let begins = start-Goes m.ending m.phased i phase (without m gone) n s in
     (begins.0, begins.1 ∙ target-without m gone)
 
@@ -107,5 +107,5 @@ drain-Goes ending.Halt phased i m n h = absurd h
 drain-Goes ending.Halted phased i m n h = absurd h
 
 -- a slot that a step drains served, and drains in its phase
-pub drain-Steps : (m n : MasterState) (gone : Option ℕ) (i : ℕ) → Steps m gone (Drain i) n → Drains i (without m gone) n
-drain-Steps m n gone i s = drain-Goes m.ending m.phased i (without m gone) n s
+pub drain-MakesStep : (m n : MasterState) (gone : Option ℕ) (i : ℕ) → MakesStep m gone (Drain i) n → Drains i (without m gone) n
+drain-MakesStep m n gone i s = drain-Goes m.ending m.phased i (without m gone) n s

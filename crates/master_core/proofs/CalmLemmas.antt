@@ -5,7 +5,6 @@ use Rattle.std.specs.Option.{is_some}
 use Rattle.std.specs.List.{list_any}
 use Rattle.master_core.specs.declared.slot.Slot.{Slot}
 use Rattle.master_core.specs.declared.slot.Slot.TheVariants.{Vacant, Serving, Draining}
-use Rattle.master_core.specs.declared.order.Ending.{Ending}
 use Rattle.master_core.specs.declared.order.Ending.TheVariants as ending
 use Rattle.master_core.specs.declared.loader.Load.{Load}
 use Rattle.master_core.specs.declared.order.Order.{Order}
@@ -14,10 +13,10 @@ use Rattle.master_core.specs.declared.order.Reply.{Reply}
 use Rattle.master_core.specs.declared.order.Reply.TheVariants.{Taken, Busy, Refused}
 use Rattle.master_core.specs.declared.order.Act.{Act}
 use Rattle.master_core.specs.declared.order.Act.TheVariants.{Rest, Drain, Start}
-use Rattle.master_core.specs.Slots.{is_vacant, is_serving, is_draining, is_below, phase_of}
+use Rattle.master_core.specs.Slots.{is_vacant, is_draining, is_below, phase_of}
 use Rattle.master_core.specs.State.{MasterState, with_slot}
-use Rattle.master_core.specs.Orders.{Orders, busy_with, is_ended}
-use Rattle.master_core.specs.Steps.{Steps, MayBeGone, started, without}
+use Rattle.master_core.specs.Orders.{TakesOrder, is_ended}
+use Rattle.master_core.specs.Steps.{MakesStep, MayBeGone, started}
 use Rattle.master_core.specs.Runs.{Leads, LeadsBy, IsReachable, away, phase_at}
 use Rattle.master_core.proofs.ShapeLemmas.{any_replicate, nowhere, first_at, any_at, slot_at, put_at, shift, none_drains, drains_only_at, none_away, one_away, below_next, not_below_own}
 use Rattle.master_core.proofs.StepLemmas.{steps_one}
@@ -40,10 +39,10 @@ pub data Calm : MasterState → Type 0 where
   serves : (a b p : ℕ) → Calm (at_work (replaced a (Serving p) b p) p)
   drains : (a b p : ℕ) → Calm (at_work (replaced a (Draining p) b p) p)
 
-pub step_rests : (n t : ℕ) → Steps (at_rest n t) None Rest (at_rest n t)
+pub step_rests : (n t : ℕ) → MakesStep (at_rest n t) None Rest (at_rest n t)
 step_rests n t = refl
 
-pub step_drains : (a b p : ℕ) → Steps (at_work (replaced a (Serving p) b p) p) None (Drain a) (at_work (replaced a (Draining p) b p) p)
+pub step_drains : (a b p : ℕ) → MakesStep (at_work (replaced a (Serving p) b p) p) None (Drain a) (at_work (replaced a (Draining p) b p) p)
 step_drains a b p = (
   nowhere is_vacant a b (Serving (suc p)) (Serving p) (Serving p) refl refl refl,
   nowhere is_draining a b (Serving (suc p)) (Serving p) (Serving p) refl refl refl,
@@ -51,7 +50,7 @@ step_drains a b p = (
   (p, slot_at a (Serving (suc p)) (Serving p) _, ap (λ s. at_work s p) (sym (put_at a (Serving (suc p)) (Serving p) (Draining p) _))),
 )
 
-pub step_waits : (a b p : ℕ) → Steps (at_work (replaced a (Draining p) b p) p) None Rest (at_work (replaced a (Draining p) b p) p)
+pub step_waits : (a b p : ℕ) → MakesStep (at_work (replaced a (Draining p) b p) p) None Rest (at_work (replaced a (Draining p) b p) p)
 step_waits a b p = (
   nowhere is_vacant a b (Serving (suc p)) (Draining p) (Serving p) refl refl refl,
   inl (ap (λ o. is_some o) (first_at is_draining a (Serving (suc p)) (Draining p) _ refl refl)),
@@ -85,23 +84,23 @@ next_is a c p =
     let F : Bool → MasterState = λ (b : Bool). record { slots = replaced (suc a) (Serving p) c p; target = suc p; phased = b; ending = ending.NotOrdered } in
     ap F (any_at (is_below (suc p)) (suc a) (Serving (suc p)) (Serving p) (replicate c (Serving p)) (not_below_own (suc p)) (below_next p))
 
-pub step_starts_last : (a p : ℕ) → Steps (at_work (replaced a (Draining p) 0 p) p) (Some a) (Start a (suc p)) (at_rest (suc a) (suc p))
+pub step_starts_last : (a p : ℕ) → MakesStep (at_work (replaced a (Draining p) 0 p) p) (Some a) (Start a (suc p)) (at_rest (suc a) (suc p))
 step_starts_last a p = (vacant_is a 0 p, refl, sym (started_is a 0 p ∙ last_is a p))
 
-pub step_starts : (a c p : ℕ) → Steps (at_work (replaced a (Draining p) (suc c) p) p) (Some a) (Start a (suc p)) (at_work (replaced (suc a) (Serving p) c p) p)
+pub step_starts : (a c p : ℕ) → MakesStep (at_work (replaced a (Draining p) (suc c) p) p) (Some a) (Start a (suc p)) (at_work (replaced (suc a) (Serving p) c p) p)
 step_starts a c p = (vacant_is a (suc c) p, refl, sym (started_is a (suc c) p ∙ next_is a c p))
 
-calm_by : (m n k : MasterState) (gone : Option ℕ) (a b : Act) → Steps m gone a n → Steps m gone b k → Calm k → Calm n
+calm_by : (m n k : MasterState) (gone : Option ℕ) (a b : Act) → MakesStep m gone a n → MakesStep m gone b k → Calm k → Calm n
 calm_by m n k gone a b s w calm = subst Calm (sym (steps_one m n k gone a b s w).1) calm
 
-calm_start : (a b p : ℕ) (act : Act) (n : MasterState) → Steps (at_work (replaced a (Draining p) b p) p) (Some a) act n → Calm n
+calm_start : (a b p : ℕ) (act : Act) (n : MasterState) → MakesStep (at_work (replaced a (Draining p) b p) p) (Some a) act n → Calm n
 calm_start a zero p act n s =
     calm_by (at_work (replaced a (Draining p) 0 p) p) n (at_rest (suc a) (suc p)) (Some a) act (Start a (suc p)) s (step_starts_last a p) (rests a (suc p))
 calm_start a (suc c) p act n s =
     calm_by (at_work (replaced a (Draining p) (suc c) p) p) n (at_work (replaced (suc a) (Serving p) c p) p) (Some a) act (Start a (suc p)) s (step_starts a c p) (serves (suc a) c p)
 
 -- a step leads from such a state to such a state
-pub calm_step : (m n : MasterState) (gone : Option ℕ) (act : Act) → Calm m → MayBeGone m gone → Steps m gone act n → Calm n
+pub calm_step : (m n : MasterState) (gone : Option ℕ) (act : Act) → Calm m → MayBeGone m gone → MakesStep m gone act n → Calm n
 calm_step m n None act (rests b t) may s =
     calm_by (at_rest (suc b) t) n (at_rest (suc b) t) None act Rest s (step_rests (suc b) t) (rests b t)
 calm_step m n (Some i) act (rests b t) may s = absurd (none_drains (suc b) t i may.0 may.1)
@@ -113,11 +112,11 @@ calm_step m n None act (drains a b p) may s =
     calm_by (at_work (replaced a (Draining p) b p) p) n (at_work (replaced a (Draining p) b p) p) None act Rest s (step_waits a b p) (drains a b p)
 calm_step m n (Some i) act (drains a b p) may s =
     let only = drains_only_at a b (suc p) p i may.0 (Draining p) may.1 in
-    let Same : ℕ → Type 0 = λ (k : ℕ). Steps (at_work (replaced a (Draining p) b p) p) (Some k) act n in
+    let Same : ℕ → Type 0 = λ (k : ℕ). MakesStep (at_work (replaced a (Draining p) b p) p) (Some k) act n in
     calm_start a b p act n (subst Same only.0 s)
 
 -- what a phased order that is taken leads from and to
-pub taken_from : (m n : MasterState) (load : Load) (target : ℕ) → Calm m → Orders m (Phased load) (Taken target) n → (b t : ℕ) × (m ≡ at_rest (suc b) t) × (target ≡ suc t) × (n ≡ at_work (replaced 0 (Serving t) b t) t)
+pub taken_from : (m n : MasterState) (load : Load) (target : ℕ) → Calm m → TakesOrder m (Phased load) (Taken target) n → (b t : ℕ) × (m ≡ at_rest (suc b) t) × (target ≡ suc t) × (n ≡ at_work (replaced 0 (Serving t) b t) t)
 taken_from m n load target (rests b t) h =
     let rises : target ≡ suc t = omega (arith, h.2) in
     let F : ℕ → MasterState = λ (u : ℕ). record { slots = replicate (suc b) (Serving t); target = u; phased = true; ending = ending.NotOrdered } in
@@ -129,7 +128,7 @@ taken_from m n load target (drains a b p) h = let e = h.0 in absurd (cc)
 abbrev pub Sound : MasterState → Type 0
 Sound m = Calm m ⊎ (is_ended m.ending ≡ true)
 
-sound_order : (m n : MasterState) (o : Order) (r : Reply) → Calm m → Orders m o r n → Sound n
+sound_order : (m n : MasterState) (o : Order) (r : Reply) → Calm m → TakesOrder m o r n → Sound n
 sound_order m n (Phased load) (Busy p t) calm h = inl (subst Calm (sym h.1) calm)
 sound_order m n (Phased load) (Refused refused) calm h = inl (subst Calm (sym h.3) calm)
 sound_order m n (Phased load) (Taken target) calm h =

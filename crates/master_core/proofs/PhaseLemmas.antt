@@ -12,9 +12,9 @@ use Rattle.master_core.specs.declared.order.Reply.TheVariants.{Taken, Busy, Refu
 use Rattle.master_core.specs.declared.order.Act.{Act}
 use Rattle.master_core.specs.declared.order.Act.TheVariants.{Rest, Drain, Start, HaltAll, Finish}
 use Rattle.master_core.specs.Slots.{phase_of, told}
-use Rattle.master_core.specs.State.{MasterState, begun}
-use Rattle.master_core.specs.Orders.{Orders}
-use Rattle.master_core.specs.Steps.{Steps, Goes, Drains, started, without}
+use Rattle.master_core.specs.State.{MasterState, new_master}
+use Rattle.master_core.specs.Orders.{TakesOrder}
+use Rattle.master_core.specs.Steps.{MakesStep, Goes, Drains, started, without}
 use Rattle.master_core.specs.Runs.{Leads, LeadsBy, LeadsTo, IsReachable, phase_at}
 
 -- the phase at a place of a list of slots
@@ -98,7 +98,7 @@ without_target : (m : MasterState) (gone : Option ℕ) → (without m gone).targ
 without_target m None = refl
 without_target m (Some i) = refl
 
-pub steps_move : (m n : MasterState) (gone : Option ℕ) (a : Act) → Steps m gone a n → Moves m n
+pub steps_move : (m n : MasterState) (gone : Option ℕ) (a : Act) → MakesStep m gone a n → Moves m n
 steps_move m n gone a s =
     let moves = goes_moves m.ending m.phased a (without m gone) n s in
     let same = without_target m gone in
@@ -111,7 +111,7 @@ steps_move m n gone a s =
 taken_moves : (m : MasterState) (t : ℕ) → t ≡ m.target + 1 → Moves m (record m { target = t; phased = true })
 taken_moves m t e = record { risen = omega arith; comes = λ i q f. inr f }
 
-pub orders_move : (m n : MasterState) (o : Order) (r : Reply) → Orders m o r n → Moves m n
+pub orders_move : (m n : MasterState) (o : Order) (r : Reply) → TakesOrder m o r n → Moves m n
 orders_move m n (Phased load) (Busy p t) h = stays_as m n h.1
 orders_move m n (Phased load) (Refused refused) h = stays_as m n h.3
 orders_move m n (Phased load) (Taken t) h = subst (Moves m) (sym h.3) (taken_moves m t h.2)
@@ -165,7 +165,7 @@ first_phases (suc n) zero q e = let same : 0 ≡ q = cc in omega arith
 first_phases (suc n) (suc i) q e = first_phases n i q e
 
 pub reachable_at_most : (m : MasterState) → IsReachable m → AtMost m
-reachable_at_most m (slots, some, few, (count, by)) = at_most_by count (begun slots) m (first_phases slots) by
+reachable_at_most m (slots, some, few, (count, by)) = at_most_by count (new_master slots) m (first_phases slots) by
 
 pub never_falls : (m n : MasterState) (i p q : ℕ) → IsReachable m → LeadsTo m n → phase_at m i ≡ Some p → phase_at n i ≡ Some q → p ≤ q
 never_falls m n i p q reachable (count, by) was is =

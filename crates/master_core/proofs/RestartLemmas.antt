@@ -1,8 +1,8 @@
 -- A phased order comes to its end.
-use Rattle.std.proofs.Common.{◌≡◌, ℕ, zero, suc, ◌+◌, ◌*◌, ◌<◌, ◌≤◌, length, Bool, true, false, Option, None, Some, refl, sym, ◌∙◌, ap, subst, arith, ◌⊎◌, inl, inr}
+use Rattle.std.proofs.Common.{◌≡◌, ℕ, zero, suc, ◌+◌, ◌*◌, ◌<◌, ◌≤◌, length, true, false, Option, None, Some, refl, sym, ◌∙◌, ap, subst, arith, ◌⊎◌, inl, inr}
 use Rattle.std.proofs.lemmas.List.{length-replicate}
 use Rattle.std.specs.Prelude.{position, replicate}
-use Rattle.master_core.specs.declared.slot.Slot.TheVariants.{Vacant, Serving, Draining}
+use Rattle.master_core.specs.declared.slot.Slot.TheVariants.{Serving, Draining}
 use Rattle.master_core.specs.declared.order.Ending.TheVariants as ending
 use Rattle.master_core.specs.declared.loader.Load.TheVariants.{Read}
 use Rattle.master_core.specs.declared.order.Order.TheVariants.{Phased}
@@ -11,16 +11,16 @@ use Rattle.master_core.specs.declared.order.Act.{Act}
 use Rattle.master_core.specs.declared.order.Act.TheVariants.{Rest, Drain, Start}
 use Rattle.master_core.specs.Slots.{is_draining}
 use Rattle.master_core.specs.State.{MasterState}
-use Rattle.master_core.specs.Orders.{Orders, is_ended}
-use Rattle.master_core.specs.Steps.{Steps}
-use Rattle.master_core.specs.Runs.{IsReachable, GoesOn}
+use Rattle.master_core.specs.Orders.{TakesOrder}
+use Rattle.master_core.specs.Steps.{MakesStep}
+use Rattle.master_core.specs.Runs.{IsReachable, StepsBy}
 use Rattle.master_core.proofs.SlotLemmas.{none_where_not_any}
 use Rattle.master_core.proofs.ShapeLemmas.{nowhere, first_at, any_replicate}
 use Rattle.master_core.proofs.OrderLemmas.{ended_is_busy}
 use Rattle.master_core.proofs.StepLemmas.{steps_one, steps_some}
-use Rattle.master_core.proofs.CalmLemmas.{Calm, Sound, at_rest, at_work, replaced, step_rests, step_drains, step_starts_last, step_starts, taken_from, reachable_sound}
+use Rattle.master_core.proofs.CalmLemmas.{Sound, at_rest, at_work, replaced, step_rests, step_drains, step_starts_last, step_starts, taken_from, reachable_sound}
 
-pub goes_on : (m : MasterState) (count : ℕ) → (n : MasterState) × GoesOn count m n
+pub goes_on : (m : MasterState) (count : ℕ) → (n : MasterState) × StepsBy count m n
 goes_on m zero = (m, refl)
 goes_on m (suc count) =
     let (between, before) = goes_on m count in
@@ -51,13 +51,13 @@ Stands total p j m = Serves total p j m ⊎ (Drains total p j m ⊎ Rests total 
 
 -- one step of the run, from a state that is known
 abbrev StepsOn : MasterState → Act → MasterState → Type 0
-StepsOn m act n = Steps m (position is_draining m.slots) act n
+StepsOn m act n = MakesStep m (position is_draining m.slots) act n
 
 -- what is known of that step
-lands : (m from n to : MasterState) (gone : Option ℕ) (act wanted : Act) → m ≡ from → position is_draining from.slots ≡ gone → Steps from gone wanted to → StepsOn m act n → n ≡ to
+lands : (m from n to : MasterState) (gone : Option ℕ) (act wanted : Act) → m ≡ from → position is_draining from.slots ≡ gone → MakesStep from gone wanted to → StepsOn m act n → n ≡ to
 lands m from n to gone act wanted same lowest right s =
     let F : MasterState → Type 0 = λ (k : MasterState). StepsOn k act n in
-    let G : Option ℕ → Type 0 = λ (o : Option ℕ). Steps from o act n in
+    let G : Option ℕ → Type 0 = λ (o : Option ℕ). MakesStep from o act n in
     (steps_one from n to gone act wanted (subst G lowest (subst F same s)) right).1
 
 rest_drains : (n t : ℕ) → position is_draining (replicate n (Serving t)) ≡ None
@@ -91,7 +91,7 @@ one_step total p j m n act (inr (inr at)) s =
     let steps = at.steps in
     inr (inr (record { steps = omega arith; is = to }))
 
-stands : (b p j : ℕ) (m n : MasterState) → m ≡ at_work (replaced 0 (Serving p) b p) p → GoesOn j m n → Stands (suc b) p j n
+stands : (b p j : ℕ) (m n : MasterState) → m ≡ at_work (replaced 0 (Serving p) b p) p → StepsBy j m n → Stands (suc b) p j n
 stands b p zero m n from same = inl (record { done = 0; left = b; steps = refl; all = omega arith; is = same ∙ from })
 stands b p (suc j) m n from (between, act, before, s) = one_step (suc b) p j between n act (stands b p j m between from before) s
 
@@ -113,25 +113,25 @@ record Taken_from (m n : MasterState) (target : ℕ) : Type 0 where
   rises : target ≡ suc phase
   is : n ≡ at_work (replaced 0 (Serving phase) back phase) phase
 
-taken_sound : (m n : MasterState) (target : ℕ) → Sound m → Orders m (Phased Read) (Taken target) n → Taken_from m n target
+taken_sound : (m n : MasterState) (target : ℕ) → Sound m → TakesOrder m (Phased Read) (Taken target) n → Taken_from m n target
 taken_sound m n target (inl calm) h =
     let (b, t, was, rises, is) = taken_from m n Read target calm h in
     record { back = b; phase = t; was = was; rises = rises; is = is }
 taken_sound m n target (inr e) h = let busy = ended_is_busy m e in let free = h.0 in absurd (cc)
 
-pub stays_pending : (m n k : MasterState) (target count : ℕ) → IsReachable m → Orders m (Phased Read) (Taken target) n → GoesOn count n k → count < 2 * length m.slots → k.phased ≡ true
+pub stays_pending : (m n k : MasterState) (target count : ℕ) → IsReachable m → TakesOrder m (Phased Read) (Taken target) n → StepsBy count n k → count < 2 * length m.slots → k.phased ≡ true
 stays_pending m n k target count reachable h goes few =
     let from = taken_sound m n target (reachable_sound m reachable) h in
     let size : length m.slots ≡ suc from.back = ap (λ x. length x.slots) from.was ∙ length-replicate (suc from.back) (Serving from.phase) in
     let few_steps : count < suc from.back + suc from.back = omega arith in
     pends (suc from.back) from.phase count k few_steps (stands from.back from.phase count n k from.is goes)
 
-pub comes_to_its_end : (m n k : MasterState) (target : ℕ) → IsReachable m → Orders m (Phased Read) (Taken target) n → GoesOn (2 * length m.slots) n k → k ≡ record m { slots = replicate (length m.slots) (Serving target); target = target }
+pub comes_to_its_end : (m n k : MasterState) (target : ℕ) → IsReachable m → TakesOrder m (Phased Read) (Taken target) n → StepsBy (2 * length m.slots) n k → k ≡ record m { slots = replicate (length m.slots) (Serving target); target = target }
 comes_to_its_end m n k target reachable h goes =
     let from = taken_sound m n target (reachable_sound m reachable) h in
     let size : length m.slots ≡ suc from.back = ap (λ x. length x.slots) from.was ∙ length-replicate (suc from.back) (Serving from.phase) in
     let steps : 2 * length m.slots ≡ suc from.back + suc from.back = omega arith in
-    let Goes_by : ℕ → Type 0 = λ (j : ℕ). GoesOn j n k in
+    let Goes_by : ℕ → Type 0 = λ (j : ℕ). StepsBy j n k in
     let end = ends (suc from.back) from.phase k (stands from.back from.phase _ n k from.is (subst Goes_by steps goes)) in
     let F : ℕ → ℕ → MasterState = λ (size : ℕ) (t : ℕ). record { slots = replicate size (Serving t); target = t; phased = false; ending = ending.NotOrdered } in
     let same : F (suc from.back) (suc from.phase) ≡ F (length m.slots) target = cc in

@@ -1,13 +1,13 @@
 -- Slots of which the front is alike and the back is alike, as they are while they are replaced one by one.
-use Rattle.std.proofs.Common.{◌≡◌, ℕ, zero, suc, ◌+◌, ◌≤◌, List, [], ◌∷◌, ◌++◌, Bool, true, false, cond, Option, None, Some, refl, sym, ◌∙◌, ap, arith}
-use Rattle.std.specs.Prelude.{position, slice_get, slice_set, replicate, nat_lt, count_by, not}
+use Rattle.std.proofs.Common.{◌≡◌, ℕ, zero, suc, ◌+◌, ◌≤◌, List, [], ◌∷◌, ◌++◌, Bool, true, false, cond, None, Some, refl, sym, ◌∙◌, ap, arith}
+use Rattle.std.specs.Prelude.{position, slice_get, slice_set, replicate, count_by, not}
 use Rattle.std.specs.Option.{option_map, is_some}
 use Rattle.std.specs.List.{list_any}
 use Rattle.std.proofs.lemmas.List.Sums.{sum_by-append}
 use Rattle.std.proofs.lemmas.Bool.Decides.{nat_tests}
 use Rattle.master_core.specs.declared.slot.Slot.{Slot}
-use Rattle.master_core.specs.declared.slot.Slot.TheVariants.{Vacant, Serving, Draining}
-use Rattle.master_core.specs.Slots.{is_vacant, is_serving, is_draining, is_below}
+use Rattle.master_core.specs.declared.slot.Slot.TheVariants.{Serving, Draining}
+use Rattle.master_core.specs.Slots.{is_serving, is_below}
 use Rattle.master_core.proofs.SlotLemmas.{position_first, position_later, position_any, none_where_not_any}
 
 pub any_replicate : (p : Slot → Bool) (n : ℕ) (y : Slot) → p y ≡ false → list_any p (replicate n y) ≡ false

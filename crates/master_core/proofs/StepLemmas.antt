@@ -1,18 +1,17 @@
 -- Each step has one act.
-use Rattle.std.proofs.Common.{◌≡◌, ℕ, Bool, true, false, cond, Option, None, Some, refl, sym, ◌∙◌, ap, get_or, inl, inr, ◌⊎◌}
+use Rattle.std.proofs.Common.{◌≡◌, ℕ, Bool, true, false, Option, None, Some, refl, sym, ◌∙◌, ap, get_or, inl, inr, ◌⊎◌}
 use Rattle.std.specs.Prelude.{position, slice_get, map, IsSome}
 use Rattle.std.specs.Option.{is_some}
 use Rattle.std.specs.List.{list_all}
 use Rattle.std.proofs.lemmas.Option.{get_or_from_slice_get}
 use Rattle.master_core.specs.Slots.{is_vacant, is_serving, is_draining, is_below, told}
-use Rattle.master_core.specs.State.{MasterState, with_slot, Lowest, NoSlot, EachSlot}
-use Rattle.master_core.specs.Steps.{Steps, Goes, Drains, started, without, MayBeGone}
+use Rattle.master_core.specs.State.{MasterState, with_slot}
+use Rattle.master_core.specs.Steps.{MakesStep, Goes, Drains, started, without, MayBeGone}
 use Rattle.master_core.specs.declared.order.Ending.{Ending}
 use Rattle.master_core.specs.declared.order.Ending.TheVariants as ending
 use Rattle.master_core.specs.declared.order.Act.{Act}
 use Rattle.master_core.specs.declared.order.Act.TheVariants.{Rest, Drain, Start, HaltAll, Finish}
-use Rattle.master_core.specs.declared.slot.Slot.{Slot}
-use Rattle.master_core.specs.declared.slot.Slot.TheVariants.{Vacant, Serving, Draining}
+use Rattle.master_core.specs.declared.slot.Slot.TheVariants.{Vacant, Serving}
 use Rattle.master_core.proofs.SlotLemmas.{serving_there, below_there, draining_there, vacant_none_serves}
 
 abbrev drained : MasterState → ℕ → MasterState
@@ -70,7 +69,7 @@ goes_is ending.Halted phased Finish m n h = rw (h.0, h.1)
 goes_is ending.Halted phased Rest m n h = rests_to _ m n h.0 h.1
 goes_is e phased a m n h = absurd h
 
-pub steps_one : (m n k : MasterState) (gone : Option ℕ) (a b : Act) → Steps m gone a n → Steps m gone b k → (a ≡ b) × (n ≡ k)
+pub steps_one : (m n k : MasterState) (gone : Option ℕ) (a b : Act) → MakesStep m gone a n → MakesStep m gone b k → (a ≡ b) × (n ≡ k)
 steps_one m n k gone a b h g =
     let e = sym (goes_is m.ending m.phased a (without m gone) n h) ∙ goes_is m.ending m.phased b (without m gone) k g in
     (ap (λ x. x.0) e, ap (λ x. x.1) e)
@@ -100,7 +99,7 @@ goes_some ending.Stop phased m = stop_right _ _ phased m refl refl
 goes_some ending.Halt phased m = (HaltAll, record m { slots = map told m.slots; ending = ending.Halted }, refl)
 goes_some ending.Halted phased m = halted_right _ phased m refl
 
-pub steps_some : (m : MasterState) (gone : Option ℕ) → (a : Act) × (n : MasterState) × Steps m gone a n
+pub steps_some : (m : MasterState) (gone : Option ℕ) → (a : Act) × (n : MasterState) × MakesStep m gone a n
 steps_some m gone = goes_some m.ending m.phased (without m gone)
 
 -- the lowest slot that drains may be gone

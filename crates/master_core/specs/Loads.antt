@@ -1,5 +1,5 @@
 -- What a loader shows.
-use Rattle.std.specs.Prelude.{◌≡◌, ℕ, ◌+◌, ◌-◌, ◌^◌, ◌≤◌, min, Result, Ok, Err, ⊤}
+use Rattle.std.specs.Prelude.{ℕ, ◌+◌, ◌-◌, ◌^◌, ◌≤◌, min, Result, Ok, ⊤}
 use Rattle.std.specs.declared.alloc.AllocError.{AllocError}
 use Rattle.master_core.specs.declared.loader.Load.{Load}
 use Rattle.master_core.specs.declared.loader.Load.TheVariants.{Failed}

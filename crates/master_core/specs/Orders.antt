@@ -1,7 +1,6 @@
 -- How a master takes an order (this project's own): a relation whose cases are the rows of the table of orders.
 use Rattle.std.specs.Prelude.{◌≡◌, ◌≢◌, ℕ, ◌+◌, ◌-◌, ◌==◌, Bool, true, false, ◌||◌, if◌then◌else◌, Option, None, Some}
 use Rattle.master_core.specs.State.{MasterState}
-use Rattle.master_core.specs.declared.loader.Load.{Load}
 use Rattle.master_core.specs.declared.loader.Load.TheVariants.{Read}
 use Rattle.master_core.specs.declared.order.Ending.{Ending}
 use Rattle.master_core.specs.declared.order.Ending.TheVariants as ending
@@ -48,13 +47,13 @@ behind_halt ending.Halt = ending.Halt
 behind_halt ending.Halted = ending.Halted
 
 -- to order o the master m answers so, and is n behind it
-abbrev pub Orders : MasterState → Order → Reply → MasterState → Type 0
-Orders m (Phased load) (Busy phase target) n = (busy_with m ≡ Some (phase, target)) × (n ≡ m)
-Orders m (Phased load) (Refused refused) n =
+abbrev pub TakesOrder : MasterState → Order → Reply → MasterState → Type 0
+TakesOrder m (Phased load) (Busy phase target) n = (busy_with m ≡ Some (phase, target)) × (n ≡ m)
+TakesOrder m (Phased load) (Refused refused) n =
     (busy_with m ≡ None) × (load ≢ Read) × (refused ≡ load) × (n ≡ m)
-Orders m (Phased load) (Taken target) n =
+TakesOrder m (Phased load) (Taken target) n =
     (busy_with m ≡ None) × (load ≡ Read) × (target ≡ m.target + 1)
     × (n ≡ record m { target = target; phased = true })
-Orders m Stop (Taken target) n = (target ≡ m.target) × (n ≡ record m { ending = behind_stop m.ending })
-Orders m Halt (Taken target) n = (target ≡ m.target) × (n ≡ record m { ending = behind_halt m.ending })
-Orders m o reply n = ⊥
+TakesOrder m Stop (Taken target) n = (target ≡ m.target) × (n ≡ record m { ending = behind_stop m.ending })
+TakesOrder m Halt (Taken target) n = (target ≡ m.target) × (n ≡ record m { ending = behind_halt m.ending })
+TakesOrder m o reply n = ⊥

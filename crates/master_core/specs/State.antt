@@ -1,5 +1,5 @@
 -- What contracts see of a master.
-use Rattle.std.specs.Prelude.{◌≡◌, ℕ, Bool, true, false, List, replicate, slice_get, slice_set, position, Option, None, Some, IsTrue}
+use Rattle.std.specs.Prelude.{◌≡◌, ℕ, Bool, false, List, replicate, slice_get, slice_set, position, None, Some, IsTrue}
 use Rattle.std.specs.List.{list_all}
 use Rattle.master_core.specs.declared.order.Ending.{Ending}
 use Rattle.master_core.specs.declared.order.Ending.TheVariants.{NotOrdered}
@@ -15,8 +15,8 @@ pub record MasterState : Type 0 where
   pub ending : Ending
 
 -- a new master: so many slots serve phase 0, and nothing is ordered
-abbrev pub begun : ℕ → MasterState
-begun slots = record { slots = replicate slots (Serving 0); target = 0; phased = false; ending = NotOrdered }
+abbrev pub new_master : ℕ → MasterState
+new_master slots = record { slots = replicate slots (Serving 0); target = 0; phased = false; ending = NotOrdered }
 
 -- the same with another slot at that place
 abbrev pub with_slot : MasterState → ℕ → Slot → MasterState

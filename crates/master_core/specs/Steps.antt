@@ -1,5 +1,5 @@
 -- What a step of a master does (this project's own): a relation whose cases are the rows of the table of steps.
-use Rattle.std.specs.Prelude.{◌≡◌, ℕ, Bool, true, false, ◌⊎◌, List, slice_get, slice_set, map, position, Option, None, Some, IsSome, ⊤}
+use Rattle.std.specs.Prelude.{◌≡◌, ℕ, Bool, true, false, ◌⊎◌, slice_get, slice_set, map, position, Option, None, Some, IsSome, ⊤}
 use Rattle.std.specs.List.{list_any}
 use Rattle.master_core.specs.Slots.{is_vacant, is_serving, is_draining, is_below, told}
 use Rattle.master_core.specs.State.{MasterState, with_slot, Lowest, NoSlot, EachSlot, IsDrainingAt}
@@ -7,7 +7,6 @@ use Rattle.master_core.specs.declared.order.Ending.{Ending}
 use Rattle.master_core.specs.declared.order.Ending.TheVariants as ending
 use Rattle.master_core.specs.declared.order.Act.{Act}
 use Rattle.master_core.specs.declared.order.Act.TheVariants.{Rest, Drain, Start, HaltAll, Finish}
-use Rattle.master_core.specs.declared.slot.Slot.{Slot}
 use Rattle.master_core.specs.declared.slot.Slot.TheVariants.{Vacant, Serving, Draining}
 
 -- a slot that is told to be gone was draining
@@ -54,5 +53,5 @@ Goes ending.Halted phased Rest m n = ¬ EachSlot is_vacant m × (n ≡ m)
 Goes other phased act m n = ⊥
 
 -- where this slot, or none, is gone, a step of m asks for the act, and the master is n behind it
-abbrev pub Steps : MasterState → Option ℕ → Act → MasterState → Type 0
-Steps m gone act n = Goes m.ending m.phased act (without m gone) n
+abbrev pub MakesStep : MasterState → Option ℕ → Act → MasterState → Type 0
+MakesStep m gone act n = Goes m.ending m.phased act (without m gone) n

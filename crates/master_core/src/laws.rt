@@ -2,9 +2,9 @@
 ghost use Rattle.std.specs.Prelude.{◌≡◌, ℕ, ◌+◌, ◌*◌, ◌<◌, ◌≤◌, true, Option, Some, length, position, replicate, slice_get};
 ghost use Rattle.master_core.specs.Slots.{is_vacant, is_draining};
 ghost use Rattle.master_core.specs.State.{MasterState, EachSlot};
-ghost use Rattle.master_core.specs.Orders.{Orders, is_ended};
-ghost use Rattle.master_core.specs.Steps.{Steps, MayBeGone};
-ghost use Rattle.master_core.specs.Runs.{LeadsTo, IsReachable, phase_at, away, GoesOn};
+ghost use Rattle.master_core.specs.Orders.{TakesOrder, is_ended};
+ghost use Rattle.master_core.specs.Steps.{MakesStep, MayBeGone};
+ghost use Rattle.master_core.specs.Runs.{LeadsTo, IsReachable, phase_at, away, StepsBy};
 ghost use Rattle.master_core.specs.declared.loader.Load.TheVariants.{Read};
 ghost use Rattle.master_core.specs.declared.order.Ending.TheVariants.{NotOrdered};
 ghost use Rattle.master_core.specs.declared.order.Order.{Order};
@@ -12,20 +12,20 @@ ghost use Rattle.master_core.specs.declared.order.Order.TheVariants.{Phased, Sto
 ghost use Rattle.master_core.specs.declared.order.Reply.{Reply};
 ghost use Rattle.master_core.specs.declared.order.Reply.TheVariants.{Taken};
 ghost use Rattle.master_core.specs.declared.order.Act.{Act};
-ghost use Rattle.master_core.specs.declared.order.Act.TheVariants.{Start, Finish};
+ghost use Rattle.master_core.specs.declared.order.Act.TheVariants.{Start, HaltAll, Finish};
 ghost use Rattle.master_core.specs.declared.slot.Slot.TheVariants.{Serving, Draining};
 
 /// To each order there is an answer, and one alone, with one state of the master behind it.
 pub fn one_order_is_right()
-    ensures total { (m : MasterState) (o : Order) → (r : Reply) × (n : MasterState) × Orders m o r n }
-    ensures one { (m n k : MasterState) (o : Order) (r s : Reply) → Orders m o r n → Orders m o s k → (r ≡ s) × (n ≡ k) }
+    ensures total { (m : MasterState) (o : Order) → (r : Reply) × (n : MasterState) × TakesOrder m o r n }
+    ensures one { (m n k : MasterState) (o : Order) (r s : Reply) → TakesOrder m o r n → TakesOrder m o s k → (r ≡ s) × (n ≡ k) }
 {}
 
 /// A step, whichever slot is gone, asks for an act, and for one alone, with one state of the master
 /// behind it.
 pub fn one_step_is_right()
-    ensures total { (m : MasterState) (gone : Option ℕ) → (a : Act) × (n : MasterState) × Steps m gone a n }
-    ensures one { (m n k : MasterState) (gone : Option ℕ) (a b : Act) → Steps m gone a n → Steps m gone b k → (a ≡ b) × (n ≡ k) }
+    ensures total { (m : MasterState) (gone : Option ℕ) → (a : Act) × (n : MasterState) × MakesStep m gone a n }
+    ensures one { (m n k : MasterState) (gone : Option ℕ) (a b : Act) → MakesStep m gone a n → MakesStep m gone b k → (a ≡ b) × (n ≡ k) }
 {}
 
 /// While neither stop nor halt is ordered, at most one slot doesn't serve, whatever orders and steps
@@ -46,9 +46,9 @@ pub fn phases_are_one_apart()
 /// and all else is as before the order.
 pub fn phased_order_ends()
     ensures may { (m : MasterState) → MayBeGone m (position is_draining m.slots) }
-    ensures goes { (m : MasterState) (count : ℕ) → (n : MasterState) × GoesOn count m n }
-    ensures pending { (m n k : MasterState) (target count : ℕ) → IsReachable m → Orders m (Phased Read) (Taken target) n → GoesOn count n k → count < 2 * length m.slots → k.phased ≡ true }
-    ensures done { (m n k : MasterState) (target : ℕ) → IsReachable m → Orders m (Phased Read) (Taken target) n → GoesOn (2 * length m.slots) n k → k ≡ record m { slots = replicate (length m.slots) (Serving target); target = target } }
+    ensures goes { (m : MasterState) (count : ℕ) → (n : MasterState) × StepsBy count m n }
+    ensures pending { (m n k : MasterState) (target count : ℕ) → IsReachable m → TakesOrder m (Phased Read) (Taken target) n → StepsBy count n k → count < 2 * length m.slots → k.phased ≡ true }
+    ensures done { (m n k : MasterState) (target : ℕ) → IsReachable m → TakesOrder m (Phased Read) (Taken target) n → StepsBy (2 * length m.slots) n k → k ≡ record m { slots = replicate (length m.slots) (Serving target); target = target } }
 {}
 
 /// The phase of a slot never falls, whatever orders and steps lie between.
@@ -58,12 +58,18 @@ pub fn phase_never_falls()
 
 /// `Finish` comes only where all slots are vacant, and stop or halt was ordered.
 pub fn finish_comes_behind_all_slots()
-    ensures vacant { (m n : MasterState) (gone : Option ℕ) → Steps m gone Finish n → EachSlot is_vacant n }
-    ensures ordered { (m n : MasterState) (gone : Option ℕ) → Steps m gone Finish n → is_ended m.ending ≡ true }
+    ensures vacant { (m n : MasterState) (gone : Option ℕ) → MakesStep m gone Finish n → EachSlot is_vacant n }
+    ensures ordered { (m n : MasterState) (gone : Option ℕ) → MakesStep m gone Finish n → is_ended m.ending ≡ true }
 {}
 
 /// Once stop or halt was ordered no slot is started any more, whatever orders and steps lie between.
 pub fn no_slot_starts_behind_an_end()
-    ensures halt { (m n k l : MasterState) (r : Reply) (gone : Option ℕ) (i phase : ℕ) → Orders m Halt r n → LeadsTo n k → ¬ (Steps k gone (Start i phase) l) }
-    ensures stop { (m n k l : MasterState) (r : Reply) (gone : Option ℕ) (i phase : ℕ) → Orders m Stop r n → LeadsTo n k → ¬ (Steps k gone (Start i phase) l) }
+    ensures halt { (m n k l : MasterState) (r : Reply) (gone : Option ℕ) (i phase : ℕ) → TakesOrder m Halt r n → LeadsTo n k → ¬ (MakesStep k gone (Start i phase) l) }
+    ensures stop { (m n k l : MasterState) (r : Reply) (gone : Option ℕ) (i phase : ℕ) → TakesOrder m Stop r n → LeadsTo n k → ¬ (MakesStep k gone (Start i phase) l) }
+{}
+
+/// A halt is carried out once: behind `HaltAll` there is no second one, whatever orders and steps lie
+/// between.
+pub fn halt_is_carried_out_once()
+    ensures { (m n k l : MasterState) (gone later : Option ℕ) → MakesStep m gone HaltAll n → LeadsTo n k → ¬ (MakesStep k later HaltAll l) }
 {}

@@ -9,9 +9,9 @@ mod order;
 mod slot;
 
 pub use laws::{
-    at_most_one_slot_is_away, finish_comes_behind_all_slots, no_slot_starts_behind_an_end,
-    one_order_is_right, one_step_is_right, phase_never_falls, phased_order_ends,
-    phases_are_one_apart,
+    at_most_one_slot_is_away, finish_comes_behind_all_slots, halt_is_carried_out_once,
+    no_slot_starts_behind_an_end, one_order_is_right, one_step_is_right, phase_never_falls,
+    phased_order_ends, phases_are_one_apart,
 };
 pub use loader::{Load, Loader};
 pub use master::Master;

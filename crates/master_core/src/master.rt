@@ -32,9 +32,9 @@ impl Model for Master {
 
 impl Master {
     ghost use Rattle.master_core.specs.Slots.{is_vacant};
-    ghost use Rattle.master_core.specs.State.{begun, Lowest, IsServingAt};
-    ghost use Rattle.master_core.specs.Orders.{Orders, busy_with, phase_before};
-    ghost use Rattle.master_core.specs.Steps.{Steps, Goes, Drains, started, MayBeGone};
+    ghost use Rattle.master_core.specs.State.{new_master, Lowest, IsServingAt};
+    ghost use Rattle.master_core.specs.Orders.{TakesOrder, busy_with, phase_before};
+    ghost use Rattle.master_core.specs.Steps.{MakesStep, Goes, Drains, started, MayBeGone};
 
     /// A master of so many slots, 1 to 16. Each serves phase 0, and nothing is ordered.
     ///
@@ -42,7 +42,7 @@ impl Master {
     pub fn new(alloc: Global, slots: u8) -> Result<Master, NoMemory>
         requires some { 1 ≤ slots }
         requires few { slots ≤ 16 }
-        ensures { IfOk result (λ m. m ≡ begun slots) }
+        ensures { IfOk result (λ m. m ≡ new_master slots) }
     {
         Ok(Master {
             slots: vec![in alloc; Slot::Serving(0); slots as usize]?,
@@ -87,7 +87,7 @@ impl Master {
     /// halt are always taken, with the target as it is: halt goes before stop, and each before a phased
     /// order. An order that is not taken changes nothing. It takes no memory.
     pub fn order(&mut self, order: Order) -> Reply
-        ensures { Orders self.old order result self.new }
+        ensures { TakesOrder self.old order result self.new }
     {
         match order {
             Order::Phased(load) => self.order_phased(load),
@@ -108,7 +108,7 @@ impl Master {
 
     // Takes a phased order.
     fn order_phased(&mut self, load: Load) -> Reply
-        ensures { Orders self.old (Order.Phased load) result self.new }
+        ensures { TakesOrder self.old (Order.Phased load) result self.new }
     {
         if let Some((phase, target)) = self.busy() {
             return Reply::Busy { phase, target };
@@ -136,7 +136,7 @@ impl Master {
     /// It takes no memory.
     pub fn step(&mut self, gone: Option<u8>) -> Act
         requires { MayBeGone self.old gone }
-        ensures { Steps self.old gone result self.new }
+        ensures { MakesStep self.old gone result self.new }
     {
         if let Some(i) = gone {
             self.slots[i as usize] = Slot::Vacant;

@@ -259,7 +259,7 @@ impl Loader for SameLoad {
     }
 }
 
-// Orders what the loader gives.
+// TakesOrder what the loader gives.
 fn order_loaded<L: Loader>(master: &mut Master, loader: &mut L) -> Result<Reply, NoMemory> {
     Ok(master.order(Phased(loader.load()?)))
 }

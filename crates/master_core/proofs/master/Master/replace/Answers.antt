@@ -1,4 +1,4 @@
-use Rattle.std.proofs.Common.{◌≡◌, Some, None, position, refl, sym, ◌∙◌, ap, inr}
+use Rattle.std.proofs.Common.{◌≡◌, Some, None, position, refl, sym, ap, inr}
 use Rattle.master_core.specs.Slots.{is_vacant, is_draining, is_below}
 use Rattle.master_core.proofs.SlotLemmas.{below_there, is_none}
 use Rattle.master_core.proofs.master.Master.replace.Goals as goal

@@ -1,4 +1,4 @@
-use Rattle.std.proofs.Common.{◌≡◌, Bool, true, position, slice_set, ◌∙◌, ap}
+use Rattle.std.proofs.Common.{◌≡◌, Bool, position, slice_set, ◌∙◌, ap}
 use Rattle.std.specs.Option.{is_some}
 use Rattle.std.specs.List.{list_any}
 use Rattle.master_core.specs.declared.slot.Slot.TheVariants.{Serving}
