@@ -6,9 +6,9 @@ use denote.Struct.Declared.{Declared, shape, row}
 use mir.Syntax.{Dict}
 use Rattle.std.proofs.Crossing.{Arc-send, send, sync, frees}
 use Rattle.std_heap.specs.contracts.GlobalAllocator.TheImpl.{ghosts}
-use Rattle.std_heap.specs.contracts.Heap as heap
+use Rattle.std_heap.specs.contracts.Global as heap
 use Rattle.std.specs.contracts.option.Option as option
-use Rattle.std.specs.contracts.sync.Arc as arc
+use Rattle.std_alloc.specs.contracts.arc.Arc as arc
 use Rattle.atomic_table.specs.contracts.shared.Seat as seated
 use Rattle.atomic_table.proofs.shared.Seat.TheSendSync as seat
 use Rattle.crossbeam_queue.specs.contracts.array_queue.Doing as doing
@@ -65,13 +65,13 @@ module _ (T R D : RattleType) (n : numbered.Ghosts T.Denot) (r : laws.Ghosts R.D
   lane_send t d =
       over.the_send QueueRow
       (slotted.the_send (Place T D) (View T D) (turns.the_row (rule.the_row T R)) heap.the_row
-          (ruled.ghosts (cargo.the_row T D) (viewed.the_row D) (rule.the_row T R) (held_by.ghosts T R D n δ r δ δ) δ) ghosts (place_send T D t d) send frees)
+      (ruled.ghosts (cargo.the_row T D) (viewed.the_row D) (rule.the_row T R) (held_by.ghosts T R D n δ r δ δ) δ) ghosts (place_send T D t d) send frees)
 
   pub lane_sync : IsSend T → IsSend D → IsSync (lane.the_row QueueRow)
   lane_sync t d =
       over.the_sync QueueRow
       (slotted.the_sync (Place T D) (View T D) (turns.the_row (rule.the_row T R)) heap.the_row
-          (ruled.ghosts (cargo.the_row T D) (viewed.the_row D) (rule.the_row T R) (held_by.ghosts T R D n δ r δ δ) δ) ghosts (place_send T D t d) send sync frees)
+      (ruled.ghosts (cargo.the_row T D) (viewed.the_row D) (rule.the_row T R) (held_by.ghosts T R D n δ r δ δ) δ) ghosts (place_send T D t d) send sync frees)
 
   pub shared_lane_send : IsSend T → IsSend D → IsSend LaneRow
   shared_lane_send t d = Arc-send (lane.the_row QueueRow) (lane_send t d) (lane_sync t d)

@@ -1,4 +1,4 @@
-ghost use Rattle.std.specs.Prelude.{◌≡◌, ◌<◌, ◌≤◌, ◌+◌, ◌*◌, true, length};
+ghost use Rattle.std.specs.Prelude.{◌≡◌, ◌<◌, ◌≤◌, ◌+◌, ◌*◌, true, length, IfOk};
 ghost use Rattle.std.specs.Arc.{arc_value};
 ghost use Rattle.pool_core.specs.declared.view.Stage.TheVariants as stage;
 ghost use Rattle.pool_core.specs.Pass.{pass_view, IsLanePass};
@@ -8,7 +8,7 @@ use std::alloc::{AllocError, Global};
 use std::snapshot::Snapshot;
 use std::sync::{Arc, Wait};
 use std::thread;
-use std::thread::{Promise, Threads};
+use std::thread::{Promise, PromisedHandle, Threads};
 
 #[test]
 fn decides_and_counts(rt: HostRuntime) {
@@ -173,6 +173,31 @@ impl Promise<(Pass<Item, Below>, Vec<u8>)> for PassOf {
     ghost kept_by = { λ p r. IsLanePass p.0.value r.0 × (length r.1.items ≡ 10000) };
 }
 
+// A thread that works with this pass and these counts.
+fn start<R: Threads + Wait + Copy + Send + 'static>(
+    rt: R,
+    lane: &Arc<Lane<Item, Below>, Global>,
+    pass: Pass<Item, Below>,
+    counts: Vec<u8>,
+    from: u32,
+) -> Result<PromisedHandle<(Pass<Item, Below>, Vec<u8>), PassOf>, AllocError>
+    requires pass { IsLanePass (arc_value lane.now) pass }
+    requires data { (pass_view pass).stage ≡ stage.Open ALL }
+    requires counts { length counts.items ≡ ALL }
+    requires from { from + SHARE ≤ ALL }
+    ensures { IfOk result (λ thread. thread.promise.0.value ≡ arc_value lane.now) }
+{
+    let theirs = Arc::try_clone(lane)?;
+    let promise = PassOf(Snapshot::of(&**lane));
+    Ok(thread::spawn_with(
+        &rt,
+        promise,
+        move ||
+            requires { IsLanePass (arc_value theirs) pass × ((pass_view pass).stage ≡ stage.Open ALL) × (length counts.items ≡ ALL) × (from + SHARE ≤ ALL) }
+        { work(&rt, &theirs, pass, counts, from) },
+    )?)
+}
+
 // So many threads put their shares through the lane and take them again, each with a pass of its own,
 // which is joined behind it. `seen` counts what they took.
 fn work_together<R: Threads + Wait + Copy + Send + 'static>(
@@ -195,12 +220,9 @@ fn work_together<R: Threads + Wait + Copy + Send + 'static>(
     if threads == 0 {
         return Ok(());
     }
-    let theirs = Arc::try_clone(lane)?;
     let counts = Vec::from_elem(alloc, 0u8, ALL as usize)?;
     let pass = lane.split(first);
-    let promise = PassOf(Snapshot::of(&**lane));
-    let from = (threads - 1) * SHARE;
-    let thread = thread::spawn_with(&rt, promise, move || work(&rt, &theirs, pass, counts, from))?;
+    let thread = start(rt, lane, pass, counts, (threads - 1) * SHARE)?;
     let others = work_together(rt, alloc, lane, first, seen, threads - 1);
     let (pass, counts) = thread.join(&rt);
     lane.join(first, pass);

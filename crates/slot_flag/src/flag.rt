@@ -62,9 +62,8 @@ impl Flag {
         ensures loads { (seat_view seat.new).loads ≡ (seat_view seat.old).loads }
         ensures whole { IsWhole (seat_view seat.old) → (seat_view seat.new).seen ≡ (seat_view seat.new).raised }
     {
-        self.table
-            .shared
-            .fetch_max::<Raise>(&mut seat.seat, 0, level);
+        let shared = &self.table.shared;
+        shared.fetch_max::<Raise>(&mut seat.seat, 0, level);
     }
 
     /// The word, by one load of this call's own: at least what the seat had seen and what it raised,
@@ -117,9 +116,8 @@ impl Flag {
         ensures told { (seat_view seat.new).out ≡ 0 → (seat_view other).seen ≤ (seat_view seat.new).raised }
         ensures whole { (seat_view seat.new).out ≡ 0 → (seat_view seat.new).seen ≡ (seat_view seat.new).raised }
     {
-        self.table
-            .shared
-            .join_seat::<Part>(&mut seat.seat, other.seat);
-        self.table.shared.load::<Learn>(&mut seat.seat, 0);
+        let shared = &self.table.shared;
+        shared.join_seat::<Part>(&mut seat.seat, other.seat);
+        shared.load::<Learn>(&mut seat.seat, 0);
     }
 }
