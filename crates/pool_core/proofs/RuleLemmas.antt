@@ -14,7 +14,7 @@ use Rattle.pool_core.specs.declared.view.Stage.{Stage}
 use Rattle.pool_core.specs.declared.view.Stage.TheVariants.{Fresh, Loaded, Open}
 use Rattle.pool_core.specs.declared.view.PassView.{PassView}
 use Rattle.pool_core.specs.Repeats.{SameElements}
-use Rattle.pool_core.specs.Pass.{IsOpen, FitsStage, IsWhole, with_put, with_taken, split_off, with_one_more_out, joined, Knows, HeldAtOnce, HeldFirst}
+use Rattle.pool_core.specs.Pass.{IsOpen, FitsStage, IsWhole, with_put, with_taken, split_off, with_one_more_out, joined, Knows, HeldAtOnce, HeldItem}
 use Rattle.pool_core.specs.Rule.{fresh_pass, at_stage, spent, FitsView, Holds, entries, Kept, Puts, Takes, Learns, PutsData, TakesData, Agrees}
 use Rattle.pool_core.proofs.ViewLemmas.{sum_by-set_at, le-sum_by, get_elem-set, each-set, others_have_none, sum_by-alone}
 
@@ -345,7 +345,7 @@ module _ {T D : Type 0} (entry : T → ℕ × ℕ) (fits : D → T → Type 0) w
   agrees id v alive cargo views k at = let mine = (k.each id v at).same alive in mine.1 ∙ sym mine.0
 
   -- with a whole pass, an item that is there was put and not yet taken
-  pub first_differs : (v : PassView D) (x : T) → HeldFirst entry fits v x → IsWhole v → ¬ SameElements v.put v.taken
+  pub first_differs : (v : PassView D) (x : T) → HeldItem entry fits v x → IsWhole v → ¬ SameElements v.put v.taken
   first_differs v x h whole same =
       let one : ℕ × ℕ → ℕ = λ _. 1 in
       let a = h.knows.balance whole one in

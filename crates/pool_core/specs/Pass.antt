@@ -68,7 +68,7 @@ module _ {D : Type 0} where
       }
 
 module _ {T D : Type 0} (entry : T → ℕ × ℕ) (fits : D → T → Type 0) where
-  -- what a call tells of the items that the lane held, oldest first, at one moment of the call: each fits
+  -- what a call tells of the items that the lane held at one moment of the call, in some order: each fits
   -- the lane's data, and for a whole pass what was put is what was taken and these, with repeats
   pub record Knows (v : PassView D) (items : List T) : Type 0 where
     pub fit : All (FitsStage fits v.stage) items
@@ -80,8 +80,8 @@ module _ {T D : Type 0} (entry : T → ℕ × ℕ) (fits : D → T → Type 0) w
     pub count : length items ≡ n
     pub knows : Knows v items
 
-  -- at one moment of the call the lane held this item, older than all others
-  pub record HeldFirst (v : PassView D) (x : T) : Type 0 where
+  -- at one moment of the call the lane held this item, and these others
+  pub record HeldItem (v : PassView D) (x : T) : Type 0 where
     pub rest : List T
     pub knows : Knows v (x ∷ rest)
 
@@ -97,5 +97,5 @@ module _ {T D P A : Type 0} where
   -- it is a pass of this lane, and not spent
   pub record IsLanePass (lane : LaneOver (Slotted (Option (Cargo T D)) (Doing (Cargo T D) (PassView D)) P A)) (pass : PassOver (queue.Pass (Cargo T D) (PassView D))) : Type 0 where
     pub of : queue.IsPassOf lane.queue pass.pass
-    pub live : (queue.view pass.pass).live ≡ 1
-    pub opened : IsOpen (queue.view pass.pass).stage
+    pub live : (pass_view pass).live ≡ 1
+    pub opened : IsOpen (pass_view pass).stage

@@ -9,7 +9,7 @@ use Rattle.pool_core.specs.declared.view.Cargo.TheVariants.{Start, Item}
 use Rattle.pool_core.specs.declared.view.Stage.{Stage}
 use Rattle.pool_core.specs.declared.view.Stage.TheVariants.{Fresh, Loaded, Open}
 use Rattle.pool_core.specs.declared.view.PassView.{PassView}
-use Rattle.pool_core.specs.Pass.{FitsStage, with_put, with_taken, HeldFirst, Knows}
+use Rattle.pool_core.specs.Pass.{FitsStage, with_put, with_taken, HeldItem, Knows}
 
 module _ {D : Type 0} where
   -- the first pass of a queue that holds nothing, before the lane is made
@@ -63,7 +63,7 @@ module _ {T D : Type 0} (entry : T → ℕ × ℕ) (fits : D → T → Type 0) w
 
   -- an item came out, and what the call tells of it
   abbrev pub Takes : PassView D → Cargo T D → PassView D → Type 0
-  Takes v c w = (x : T) × (c ≡ Item x) × (w ≡ with_taken (entry x) v) × HeldFirst entry fits v x
+  Takes v c w = (x : T) × (c ≡ Item x) × (w ≡ with_taken (entry x) v) × HeldItem entry fits v x
 
   -- what a call learns of the queue
   abbrev pub Learns : PassView D → List (Cargo T D) → Type 0

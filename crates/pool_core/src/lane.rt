@@ -1,6 +1,6 @@
 // A lane and its passes.
 ghost use Rattle.std.specs.Prelude.{◌≡◌, ◌<◌, ◌↔◌, true, IfOk, OnOk, IfErr, OnErr, IfSome, IfNone, IsNone};
-ghost use Rattle.pool_core.specs.Pass.{lane_room, pass_view, IsLanePass, FitsStage, IsWhole, first_pass, with_put, with_taken, split_off, with_one_more_out, joined, HeldAtOnce, HeldFirst};
+ghost use Rattle.pool_core.specs.Pass.{lane_room, pass_view, IsLanePass, FitsStage, IsWhole, first_pass, with_put, with_taken, split_off, with_one_more_out, joined, HeldAtOnce, HeldItem};
 ghost use Rattle.pool_core.specs.Repeats.{SameElements};
 
 use crate::steps::{Load, OneLane, Open, Part, Put, Take};
@@ -24,8 +24,8 @@ pub struct LaneOver<Q> {
     queue: Q,
 }
 
-/// A queue of bounded room through which owners hand items to one another, first in first out, mostly
-/// in an `Arc`.
+/// A queue of bounded room through which owners hand items to one another, mostly in an `Arc`. Items
+/// go first in, first out, of which no clause speaks.
 ///
 /// Its items fit data that are fixed when it is made: `put` needs it, and what `take` gives fits. Each
 /// owner has a [`Pass`], which knows the numbers that went in and out through it. As lists with
@@ -99,14 +99,14 @@ impl<T: Numbered + Drop, R: LaneRule<T>> LaneOver<Bench<T, R>> {
         }
     }
 
-    /// The oldest item, which fits the lane's data. `None` only where the lane was empty at one moment
+    /// An item, the oldest first, which fits the lane's data. `None` only where the lane was empty at one moment
     /// of the call; with the whole pass exactly where all that was put was taken. It takes no memory.
     pub fn take<W: Wait>(&self, rt: &W, pass: &mut Pass<T, R>) -> Option<T>
         requires pass { IsLanePass self.now pass.old }
         ensures pass { IsLanePass self.now pass.new }
         ensures fits { IfSome result (λ x. FitsStage R.fits (pass_view pass.old).stage x) }
         ensures taken { IfSome result (λ x. pass_view pass.new ≡ with_taken (T.number_of x, T.tag x) (pass_view pass.old)) }
-        ensures first { IfSome result (λ x. HeldFirst (λ x. (T.number_of x, T.tag x)) R.fits (pass_view pass.old) x) }
+        ensures held { IfSome result (λ x. HeldItem (λ x. (T.number_of x, T.tag x)) R.fits (pass_view pass.old) x) }
         ensures same { IfNone result (pass_view pass.new ≡ pass_view pass.old) }
         ensures empty { IfNone result (HeldAtOnce (λ x. (T.number_of x, T.tag x)) R.fits (pass_view pass.old) 0) }
         ensures whole { IsWhole (pass_view pass.old) → (IsNone result ↔ SameElements (pass_view pass.old).put (pass_view pass.old).taken) }
