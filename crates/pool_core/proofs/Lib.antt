@@ -1,0 +1,5 @@
+pub mod CallerLemmas
+pub mod RepeatLemmas
+pub mod RuleLemmas
+pub mod SendLemmas
+pub mod ViewLemmas

@@ -1,0 +1,4 @@
+pub mod Book
+pub mod Pass
+pub mod Repeats
+pub mod Rule
