@@ -32,8 +32,7 @@ body_begins b n k r g x h fits body =
       end = end;
       head = subst (λ (w : List ℕ). StandsHead (head_text w) r g) (sym (take-take n (n + k) b order)) h.head;
     } in
-    let rest : drop n (take (n + k) b) ≡ take k (drop n b) = drop-take n k b in
-    (
+    let rest : drop n (take (n + k) b) ≡ take k (drop n b) = drop-take n k b in (
       omega (arith, at.inside, fits, length-drop n b),
       request_of_body (take (n + k) b) n r g x head (subst (λ (w : List ℕ). IsBody g w x) (sym rest) body),
     )

@@ -1,6 +1,6 @@
 -- What crates above may cite of the proofs of this one: lemmas over its public definitions. The laws of
 -- `src/laws.rt` are among them.
-use Rattle.std.proofs.Common.{◌≡◌, ℕ, ◌+◌, ◌≤◌, List, [], ◌++◌, length, take, drop, subst, arith}
+use Rattle.std.proofs.Common.{◌≡◌, ℕ, ◌+◌, ◌≤◌, List, [], ◌++◌, length, take, drop, refl, subst, arith}
 use Rattle.rack_types.specs.declared.fault.Fault.{Fault}
 use Rattle.rack_types.specs.Request.{Parts}
 use Rattle.rack_types.specs.Sound.{IsSound}

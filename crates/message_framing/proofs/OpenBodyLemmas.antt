@@ -59,8 +59,7 @@ unfolding ChunksAt ChunksRefused
 later_open sum size line got rest is all some fits h = record {
   whole = λ y more ps split chunks.
       h.whole (chunk_text line got y) more (got ∷ ps)
-      (ap (chunk_text line got) split ∙ sym (tail_more line got (13 ∷ 10 ∷ y) more))
-      (
+      (ap (chunk_text line got) split ∙ sym (tail_more line got (13 ∷ 10 ∷ y) more)) (
         length line + (size + 2),
         length y,
         chunk_here sum size line got y is all some fits,
@@ -69,8 +68,7 @@ later_open sum size line got rest is all some fits h = record {
         omega (arith, all, length-append line (got ++ (13 ∷ 10 ∷ y)), length-append got (13 ∷ 10 ∷ y)),
       );
   refused = λ ps f r.
-      h.refused (got ∷ ps) f
-      (
+      h.refused (got ∷ ps) f (
         length line + (size + 2),
         chunk_here sum size line got rest is all some fits,
         subst (λ (d : List ℕ). ChunksRefused ps (sum + length got) d f) (sym (behind_chunk line got rest size all))
@@ -81,7 +79,7 @@ later_open sum size line got rest is all some fits h = record {
 -- the trailer behind a size line that names 0, whose text is whole
 module _ (sum : ℕ) (line rest : List ℕ) (is : IsSizeLine line 0) (fits : sum ≤ body_limit) (h : IsOpenBody sum (line ++ rest)) (m : ℕ)
     (found : trailer_within rest ≡ Some m) where
-  text : List ℕ
+  abbrev text : List ℕ
   text = take m rest
 
   text_size : length text ≡ m
@@ -193,15 +191,11 @@ line_bounded fuel sum line rest budget end within h over next = either_way ((siz
       | inr fits ↦ by_size some.0 some.1 fits
     ]
 
--- with so many bytes of data to come, at most
-pub body_bounded : (steps fuel sum : ℕ) (x : List ℕ) → fuel ≤ steps → sum + fuel ≡ body_limit → IsOpenBody sum x → 1027 * fuel + 9216 < length x → ⊥
-body_bounded steps fuel sum x order budget h over = go (size_line_within x) refl
+-- by where its size line ends
+body_at : (fuel sum : ℕ) (x : List ℕ) → sum + fuel ≡ body_limit → IsOpenBody sum x → 1027 * fuel + 9216 < length x
+    → ((size : ℕ) → 0 < size → size ≤ fuel → (w : List ℕ) → IsOpenBody (sum + size) w → 1027 * (fuel - size) + 9216 < length w → ⊥) → ⊥
+body_at fuel sum x budget h over next = go (size_line_within x) refl
   where
-    next : (n : ℕ) → steps ≡ n → (size : ℕ) → 0 < size → size ≤ fuel → (w : List ℕ) → IsOpenBody (sum + size) w → 1027 * (fuel - size) + 9216 < length w → ⊥
-    next zero is size some below w later over = omega (arith, is, some, below, order)
-    next (suc n) is size some below w later over =
-        body_bounded n (fuel - size) (sum + size) w (omega (arith, is, some, below, order)) (omega (arith, below, budget)) later over
-
     go : (o : Option ℕ) → size_line_within x ≡ o → ⊥
     go None none =
         let long : size_line_limit ≤ length x = omega (arith, over) in
@@ -214,4 +208,13 @@ body_bounded steps fuel sum x order budget h over = go (size_line_within x) refl
         let end : line_end line ≡ Some (length line) =
         ap line_end (sym (take-take n size_line_limit x at.limit)) ∙ line_end_take (take size_line_limit x) n found ∙ ap Some (sym size) in
         line_bounded fuel sum line (drop n x) budget end (omega (arith, size, at.limit)) (subst (λ (w : List ℕ). IsOpenBody sum w) (sym split) h)
-        (omega (arith, over, ap length split)) (next steps refl)
+        (omega (arith, over, ap length split)) next
+
+-- with so many bytes of data to come, at most
+pub body_bounded : (steps fuel sum : ℕ) (x : List ℕ) → fuel ≤ steps → sum + fuel ≡ body_limit → IsOpenBody sum x → 1027 * fuel + 9216 < length x → ⊥
+body_bounded zero fuel sum x order budget h over =
+    body_at fuel sum x budget h over (λ size some below w later more. omega (arith, some, below, order))
+body_bounded (suc n) fuel sum x order budget h over =
+    body_at fuel sum x budget h over
+    (λ size some below w later more.
+    body_bounded n (fuel - size) (sum + size) w (omega (arith, some, below, order)) (omega (arith, below, budget)) later more)
