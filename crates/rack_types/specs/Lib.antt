@@ -1,6 +1,7 @@
 pub mod Env
 pub mod Fields
 pub mod Input
+pub mod Kept
 pub mod Lending
 pub mod Limits
 pub mod Request
