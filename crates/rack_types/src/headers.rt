@@ -72,11 +72,7 @@ impl Headers {
     }
 
     /// Gives a name one value as `set` does; both are static texts, for which no memory is taken.
-    pub fn set_static(
-        &mut self,
-        name: &'static [u8],
-        value: &'static [u8],
-    ) -> Result<(), NoMemory>
+    pub fn set_static(&mut self, name: &'static [u8], value: &'static [u8]) -> Result<(), NoMemory>
         ensures set { OnOk result (self.new ≡ set_header name.now value.now self.old) }
         ensures unchanged { OnErr result (self.new ≡ self.old) }
     {
@@ -182,4 +178,31 @@ fn push_value(values: &mut Values, value: Text) -> Result<(), NoMemory>
 {
     values.more.push(value)?;
     Ok(())
+}
+
+#[cfg(test)]
+mod tests {
+    use super::*;
+
+    #[test]
+    fn keeps_the_order_of_names(rt: HostRuntime) -> Result<(), NoMemory> {
+        let alloc = rt.alloc();
+        let mut headers = Headers::with_room(alloc, 4)?;
+        headers.set_static(b"content-type", b"text/plain")?;
+        headers.add(b"set-cookie", b"a=1")?;
+        headers.set_value(b"content-length", Bytes::new(Vec::from_slice(alloc, b"5")?))?;
+        headers.add(b"set-cookie", b"b=2")?;
+        headers.add(b"content-type", b"more")?;
+        headers.set(b"content-type", b"text/html")?;
+        assert_eq!(rt; headers.len(), 3);
+        assert_eq!(rt; headers.name(0), "content-type".as_bytes());
+        assert_eq!(rt; headers.value_count(0), 1);
+        assert_eq!(rt; headers.value(0, 0), "text/html".as_bytes());
+        assert_eq!(rt; headers.value_count(1), 2);
+        assert_eq!(rt; headers.value(1, 0), "a=1".as_bytes());
+        assert_eq!(rt; headers.value(1, 1), "b=2".as_bytes());
+        assert_eq!(rt; headers.get(b"content-length"), Some(2));
+        assert_eq!(rt; headers.get(b"status"), None);
+        Ok(())
+    }
 }
