@@ -185,24 +185,26 @@ mod tests {
     use super::*;
 
     #[test]
-    fn keeps_the_order_of_names(rt: HostRuntime) -> Result<(), NoMemory> {
-        let alloc = rt.alloc();
-        let mut headers = Headers::with_room(alloc, 4)?;
-        headers.set_static(b"content-type", b"text/plain")?;
+    fn adds_values_in_place(rt: HostRuntime) -> Result<(), NoMemory> {
+        let mut headers = Headers::with_room(rt.alloc(), 2)?;
         headers.add(b"set-cookie", b"a=1")?;
-        headers.set_value(b"content-length", Bytes::new(Vec::from_slice(alloc, b"5")?))?;
+        headers.set_static(b"content-type", b"text/plain")?;
         headers.add(b"set-cookie", b"b=2")?;
-        headers.add(b"content-type", b"more")?;
-        headers.set(b"content-type", b"text/html")?;
-        assert_eq!(rt; headers.len(), 3);
-        assert_eq!(rt; headers.name(0), "content-type".as_bytes());
-        assert_eq!(rt; headers.value_count(0), 1);
-        assert_eq!(rt; headers.value(0, 0), "text/html".as_bytes());
-        assert_eq!(rt; headers.value_count(1), 2);
-        assert_eq!(rt; headers.value(1, 0), "a=1".as_bytes());
-        assert_eq!(rt; headers.value(1, 1), "b=2".as_bytes());
-        assert_eq!(rt; headers.get(b"content-length"), Some(2));
-        assert_eq!(rt; headers.get(b"status"), None);
+        assert_eq!(rt; headers.len(), 2);
+        assert_eq!(rt; headers.value_count(0), 2);
+        assert_eq!(rt; headers.value(0, 1), "b=2".as_bytes());
+        Ok(())
+    }
+
+    #[test]
+    fn sets_one_value_in_place(rt: HostRuntime) -> Result<(), NoMemory> {
+        let mut headers = Headers::new(rt.alloc());
+        headers.set(b"etag", b"x")?;
+        headers.set_value(b"age", Bytes::new(Vec::from_slice(rt.alloc(), b"5")?))?;
+        headers.set(b"etag", b"y")?;
+        assert_eq!(rt; headers.get(b"age"), Some(1));
+        assert_eq!(rt; headers.name(0), "etag".as_bytes());
+        assert_eq!(rt; headers.value(0, 0), "y".as_bytes());
         Ok(())
     }
 }
