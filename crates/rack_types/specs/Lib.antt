@@ -4,6 +4,8 @@ pub mod Input
 pub mod Kept
 pub mod Lending
 pub mod Limits
+pub mod Name
 pub mod Request
 pub mod Rules
 pub mod Sound
+pub mod Table

@@ -7,8 +7,10 @@ mod env;
 mod fault;
 mod input;
 mod limits;
+mod name;
 mod peer;
 mod request;
+mod table;
 
 pub use bytes::Bytes;
 pub use env::Env;
