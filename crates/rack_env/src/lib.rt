@@ -2,7 +2,7 @@
 //! fixed order, and the body as input.
 #![tactic(auto)]
 
-ghost use Rattle.std.specs.Prelude.{◌≡◌, ◌<◌, None, length, IfOk};
+ghost use Rattle.std.specs.Prelude.{◌≡◌, ◌<◌, None, length, IfOk, OnOk};
 ghost use Rattle.rack_types.specs.Request.{with_body};
 ghost use Rattle.rack_types.specs.Rules.{broken_env_rule};
 ghost use Rattle.rack_types.specs.Sound.{IsSound};
@@ -15,7 +15,7 @@ mod host;
 mod laws;
 
 pub use laws::fields_are_found;
-use rack_types::{Env, Input, Local, NoMemory, Peer, Request};
+use rack_types::{Bytes, Env, Input, Local, NoMemory, Peer, Request};
 use std::alloc::Global;
 
 /// The environment of a request with this input, which came from this peer to this local side.
@@ -37,11 +37,27 @@ pub fn env_of(
     ensures input { IfOk result (λ e. e.input ≡ input) }
     ensures rules { IsSound request.now → 0 < length local.now.name → IfOk result (λ e. broken_env_rule e.pairs ≡ None) }
 {
-    let body = input.all().len();
     let room = request.field_count().saturating_add(fixed::COUNT + 1);
-    let mut env = Env::with_room(alloc, room, input)?;
-    fixed::put_fixed(&mut env, request, peer, local)?;
-    content::put_content(alloc, &mut env, request, body)?;
-    fields::put_fields(alloc, &mut env, request)?;
+    let mut env = Env::with_room(alloc, room, Input::new(Bytes::new(Vec::new(alloc))))?;
+    refill(&mut env, request, input, peer, local)?;
     Ok(env)
+}
+
+/// Fills an environment anew with the request's, whatever it was before.
+pub fn refill(
+    env: &mut Env,
+    request: &Request,
+    input: Input,
+    peer: &Peer,
+    local: &Local,
+) -> Result<(), NoMemory>
+    ensures pairs { OnOk result (env.new.pairs ≡ env_pairs (with_body input.bytes request.now) peer.now local.now) }
+    ensures input { OnOk result (env.new.input ≡ input) }
+    ensures rules { 0 < length local.now.name → OnOk result (broken_env_rule env.new.pairs ≡ None) }
+{
+    let body = input.all().len();
+    env.clear(input);
+    fixed::put_fixed(env, request, peer, local)?;
+    content::put_content(env, request, body)?;
+    fields::put_fields(env, request)
 }
