@@ -12,11 +12,7 @@ use rack_types::{Env, NoMemory, Request};
 
 /// Puts the body's type and length behind what is there, where the request has them. The body has
 /// so many bytes.
-pub(crate) fn put_content(
-    env: &mut Env,
-    request: &Request,
-    body: usize,
-) -> Result<(), NoMemory>
+pub(crate) fn put_content(env: &mut Env, request: &Request, body: usize) -> Result<(), NoMemory>
     requires no_type { get_pair (codes "CONTENT_TYPE") env.old.pairs ≡ None }
     requires no_length { get_pair (codes "CONTENT_LENGTH") env.old.pairs ≡ None }
     ensures { (bytes : List ℕ) → length bytes ≡ body → OnOk result (env.new ≡ with_pairs env.old
