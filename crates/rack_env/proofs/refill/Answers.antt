@@ -5,7 +5,7 @@ use Rattle.rack_types.specs.Rules.{broken_env_rule}
 use Rattle.rack_env.specs.Environment.{env_pairs}
 use Rattle.rack_env.proofs.EnvLemmas.{no_type_fixed, no_length_fixed, env_whole}
 use Rattle.rack_env.proofs.RuleLemmas.{keeps_rules, sound_whole}
-use Rattle.rack_env.proofs.env_of.Goals as goal
+use Rattle.rack_env.proofs.refill.Goals as goal
 
 pub put_content-requires-clause-no_type : goal.put_content-requires-clause-no_type
 put_content-requires-clause-no_type c =
