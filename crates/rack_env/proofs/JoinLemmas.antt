@@ -4,28 +4,12 @@ use Rattle.std.proofs.lemmas.Slice.Eq.{bytes_eq-Decides}
 use Rattle.std.proofs.lemmas.List.{append-nil}
 use Rattle.std.specs.List.{fold}
 use Rattle.rack_types.specs.Env.{Environment, Pairs, get_pair, set_pair, extend_pair, with_pairs}
-use Rattle.rack_types.proofs.Pairs.{extend_pair-absent}
 use Rattle.rack_env.specs.Environment.{pair_if}
 use Rattle.rack_env.specs.Fields.{join_pair, joined, with_more}
 use Rattle.rack_env.specs.Placing.{join_values}
 
 pub is_same : (a : List ℕ) → bytes_eq a a ≡ true
 is_same a = (bytes_eq-Decides a a).1 refl
-
-pub is_absent : (o : Option (List ℕ)) → is_some o ≡ false → o ≡ None
-is_absent None e = refl
-is_absent (Some v) e = cc
-
--- a name that is there goes on
-pub join_pair-there : (name value : List ℕ) (ps : Pairs) → is_some (get_pair name ps) ≡ true → join_pair name value ps ≡ extend_pair name (codes ", " ++ value) ps
-join_pair-there name value [] there = cc
-join_pair-there name value (p ∷ ps) there =
-    by (bytes_eq name p.0) (join_pair-there name value ps) there
-  where
-    by : (t : Bool) → (is_some (get_pair name ps) ≡ true → join_pair name value ps ≡ extend_pair name (codes ", " ++ value) ps) → is_some (cond t (Some p.1) (get_pair name ps)) ≡ true
-        → cond t ((p.0, with_more p.1 value) ∷ ps) (p ∷ join_pair name value ps) ≡ cond t ((p.0, p.1 ++ (codes ", " ++ value)) ∷ ps) (p ∷ extend_pair name (codes ", " ++ value) ps)
-    by true rest there = refl
-    by false rest there = ap (λ qs. p ∷ qs) (rest there)
 
 -- a name that is not there is set
 pub join_pair-new : (name value : List ℕ) (ps : Pairs) → get_pair name ps ≡ None → join_pair name value ps ≡ set_pair name value ps
@@ -88,12 +72,3 @@ join_values-new name ps [] absent = sym (append-nil ps)
 join_values-new name ps (value ∷ values) absent =
     let first : join_pair name value ps ≡ ps ++ (name, value) ∷ [] = sym (ap (join_pair name value) (append-nil ps)) ∙ join_pair-append name value ps [] absent in
     ap (λ qs. join_values name qs values) first ∙ join_more name value ps values absent
-
--- a name that was not there, behind a call that found nothing to go on with
-pub set_new : (e mid : Environment) (name value given more : List ℕ) → mid ≡ with_pairs e (extend_pair name more e.pairs) → get_pair name e.pairs ≡ None → given ≡ value
-    → with_pairs mid (set_pair name given mid.pairs) ≡ with_pairs e (join_pair name value e.pairs)
-set_new e mid name value given more is absent same =
-    ap (λ (m : Environment). with_pairs m (set_pair name given m.pairs)) is
-    ∙ ap (λ (ps : Pairs). with_pairs e (set_pair name given ps)) (extend_pair-absent name more e.pairs absent)
-    ∙ ap (λ (v : List ℕ). with_pairs e (set_pair name v e.pairs)) same
-    ∙ sym (ap (with_pairs e) (join_pair-new name value e.pairs absent))

@@ -1,8 +1,9 @@
 -- The environment of a request (after the Rack SPEC, "The Environment"; the names that are there, their
 -- order and `rack.errors` are this project's own).
 use Rattle.std.specs.Prelude.{ℕ, Bool, List, [], ◌∷◌, ◌++◌, length, Option, None, Some, codes, decimal, if◌then◌else◌}
-use Rattle.rack_types.specs.Env.{Pairs}
+use Rattle.rack_types.specs.Env.{Environment, Pairs}
 use Rattle.rack_types.specs.Fields.{values_of}
+use Rattle.rack_types.specs.Input.{unread}
 use Rattle.rack_types.specs.Request.{Parts}
 use Rattle.rack_types.specs.declared.limits.Version.{Version}
 use Rattle.rack_types.specs.declared.limits.Version.TheVariants.{Http10, Http11}
@@ -58,3 +59,7 @@ content_pairs r =
 -- the pairs of a request's environment, in order, by the peer's text and the local side
 unfoldable pub env_pairs : Parts → List ℕ → Local → Pairs
 env_pairs r peer local = fixed_pairs r peer local ++ (content_pairs r ++ with_authority r.authority (field_pairs r.fields))
+
+-- a request's environment: its pairs, and its body, of which nothing is read
+abbrev pub environment : Parts → List ℕ → Local → Environment
+environment r peer local = record { pairs = env_pairs r peer local; input = unread r.body }

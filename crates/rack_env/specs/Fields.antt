@@ -1,10 +1,10 @@
 -- The pairs that come of a request's fields (RFC 3875, section 4.1.18; that fields whose name has `_`
 -- are left out is this project's own).
-use Rattle.std.specs.Prelude.{ℕ, Bool, ◌||◌, ◌==◌, List, [], ◌∷◌, ◌++◌, map, Option, None, Some, codes, bytes_eq, if◌then◌else◌}
+use Rattle.std.specs.Prelude.{ℕ, Bool, ◌||◌, ◌==◌, List, [], ◌∷◌, ◌++◌, map, Option, None, Some, codes, if◌then◌else◌}
 use Rattle.std.specs.Char.{to_ascii_uppercase}
 use Rattle.std.specs.List.{fold, list_any}
 use Rattle.rack_text.specs.Case.{same_ignoring_case}
-use Rattle.rack_types.specs.Env.{Pairs, set_pair}
+use Rattle.rack_types.specs.Env.{Pairs, add_pair, set_pair}
 
 -- the value, and behind it `, ` and one more
 abbrev pub with_more : List ℕ → List ℕ → List ℕ
@@ -35,8 +35,7 @@ is_left_out name =
 
 -- the name has one value more: one that is there keeps its place, a new one goes last
 abbrev pub join_pair : List ℕ → List ℕ → Pairs → Pairs
-join_pair name value [] = (name, value) ∷ []
-join_pair name value (p ∷ ps) = if bytes_eq name p.0 then (p.0, with_more p.1 value) ∷ ps else p ∷ join_pair name value ps
+join_pair name value ps = add_pair name (codes ", ") value ps
 
 -- the pairs with one field more
 abbrev pub put_field : Pairs → List ℕ × List ℕ → Pairs

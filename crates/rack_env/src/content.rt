@@ -6,39 +6,31 @@ ghost use Rattle.rack_types.specs.Fields.{values_of};
 ghost use Rattle.rack_env.specs.Environment.{content_pairs, pair_if};
 ghost use Rattle.rack_env.specs.Fields.{joined};
 
-use crate::fields::join_value;
 use itoa::Buffer;
 use rack_text::same_ignoring_case;
 use rack_types::{Env, NoMemory, Request};
-use std::alloc::Global;
 
 /// Puts the body's type and length behind what is there, where the request has them. The body has
 /// so many bytes.
-pub(crate) fn put_content(
-    alloc: Global,
-    env: &mut Env,
-    request: &Request,
-    body: usize,
-) -> Result<(), NoMemory>
+pub(crate) fn put_content(env: &mut Env, request: &Request, body: usize) -> Result<(), NoMemory>
     requires no_type { get_pair (codes "CONTENT_TYPE") env.old.pairs ≡ None }
     requires no_length { get_pair (codes "CONTENT_LENGTH") env.old.pairs ≡ None }
     ensures { (bytes : List ℕ) → length bytes ≡ body → OnOk result (env.new ≡ with_pairs env.old
         (env.old.pairs ++ content_pairs (with_body bytes request.now))) }
 {
-    put_values(alloc, env, request, b"content-type", b"CONTENT_TYPE")?;
+    put_values(env, request, b"content-type", b"CONTENT_TYPE")?;
     if request.chunked() {
-        return env.set(b"CONTENT_LENGTH", Buffer::new().format(body).as_bytes());
+        return env.set_static(b"CONTENT_LENGTH", Buffer::new().format(body).as_bytes());
     }
-    put_values(alloc, env, request, b"content-length", b"CONTENT_LENGTH")
+    put_values(env, request, b"content-length", b"CONTENT_LENGTH")
 }
 
 // Puts the values of all fields with this name behind what is there, joined.
 fn put_values(
-    alloc: Global,
     env: &mut Env,
     request: &Request,
     field: &[u8],
-    name: &[u8],
+    name: &'static [u8],
 ) -> Result<(), NoMemory>
     requires { get_pair name.now env.old.pairs ≡ None }
     ensures { OnOk result (env.new ≡ with_pairs env.old
@@ -46,7 +38,7 @@ fn put_values(
 {
     for i in 0..request.field_count() {
         if same_ignoring_case(request.field_name(i), field) {
-            join_value(env, Vec::from_slice(alloc, name)?, request.field_value(i))?;
+            env.add_static(name, b", ", request.field_value(i))?;
         }
     }
     Ok(())

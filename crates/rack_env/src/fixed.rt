@@ -21,17 +21,17 @@ pub(crate) fn put_fixed(
     ensures { OnOk result (env.new ≡ with_pairs env.old (spec.fixed_pairs request.now peer.now local.now)) }
 {
     let (name, port) = server(request, local);
-    env.set(b"REQUEST_METHOD", request.method())?;
-    env.set(b"SCRIPT_NAME", b"")?;
-    env.set(b"PATH_INFO", request.path())?;
-    env.set(b"QUERY_STRING", request.query())?;
-    env.set(b"SERVER_NAME", name)?;
-    env.set(b"SERVER_PORT", Buffer::new().format(port).as_bytes())?;
-    env.set(b"SERVER_PROTOCOL", protocol(request.version()))?;
-    env.set(b"REMOTE_ADDR", peer.get())?;
-    env.set(b"rack.url_scheme", scheme(local.https))?;
-    env.set(b"rack.errors", b"discard")?;
-    env.set(b"rack.hijack?", truth(local.hijack))
+    env.set_static(b"REQUEST_METHOD", request.method())?;
+    env.set_static(b"SCRIPT_NAME", b"")?;
+    env.set_static(b"PATH_INFO", request.path())?;
+    env.set_static(b"QUERY_STRING", request.query())?;
+    env.set_static(b"SERVER_NAME", name)?;
+    env.set_static(b"SERVER_PORT", Buffer::new().format(port).as_bytes())?;
+    env.set_static(b"SERVER_PROTOCOL", protocol(request.version()))?;
+    env.set_static(b"REMOTE_ADDR", peer.get())?;
+    env.set_static(b"rack.url_scheme", scheme(local.https))?;
+    env.set_static(b"rack.errors", b"discard")?;
+    env.set_static(b"rack.hijack?", truth(local.hijack))
 }
 
 fn protocol(version: Version) -> &'static [u8]

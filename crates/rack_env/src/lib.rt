@@ -2,11 +2,11 @@
 //! fixed order, and the body as input.
 #![tactic(auto)]
 
-ghost use Rattle.std.specs.Prelude.{◌≡◌, ◌<◌, None, length, IfOk};
+ghost use Rattle.std.specs.Prelude.{◌≡◌, ◌<◌, None, length, IfOk, OnOk};
+ghost use Rattle.rack_types.specs.Input.{unread};
 ghost use Rattle.rack_types.specs.Request.{with_body};
 ghost use Rattle.rack_types.specs.Rules.{broken_env_rule};
-ghost use Rattle.rack_types.specs.Sound.{IsSound};
-ghost use Rattle.rack_env.specs.Environment.{env_pairs};
+ghost use Rattle.rack_env.specs.Environment.{env_pairs, environment};
 
 mod content;
 mod fields;
@@ -15,17 +15,17 @@ mod host;
 mod laws;
 
 pub use laws::fields_are_found;
-use rack_types::{Env, Input, Local, NoMemory, Peer, Request};
+use rack_types::{Bytes, Env, Input, Local, NoMemory, Peer, Request};
 use std::alloc::Global;
 
 /// The environment of a request with this input, which came from this peer to this local side.
 ///
 /// The request's body is what the input holds, read or not: a request whose body was moved out into
 /// the input has the environment of the whole one. It breaks no rule of an environment where the
-/// request is one that message framing takes and the local name is not empty.
+/// local name is not empty.
 ///
-/// Each name and each value takes memory at most once, but for a field that comes again: its value
-/// goes on in place.
+/// It takes memory for its table, once for each value that is not empty, and once for each name that
+/// comes of a field.
 pub fn env_of(
     alloc: Global,
     request: &Request,
@@ -35,13 +35,36 @@ pub fn env_of(
 ) -> Result<Env, NoMemory>
     ensures pairs { IfOk result (λ e. e.pairs ≡ env_pairs (with_body input.bytes request.now) peer.now local.now) }
     ensures input { IfOk result (λ e. e.input ≡ input) }
-    ensures rules { IsSound request.now → 0 < length local.now.name → IfOk result (λ e. broken_env_rule e.pairs ≡ None) }
+    ensures whole { input ≡ unread input.bytes → IfOk result (λ e. e ≡ environment (with_body input.bytes request.now) peer.now local.now) }
+    ensures rules { 0 < length local.now.name → IfOk result (λ e. broken_env_rule e.pairs ≡ None) }
 {
-    let body = input.all().len();
-    let room = request.field_count().saturating_add(fixed::COUNT + 1);
-    let mut env = Env::with_room(alloc, room, input)?;
-    fixed::put_fixed(&mut env, request, peer, local)?;
-    content::put_content(alloc, &mut env, request, body)?;
-    fields::put_fields(alloc, &mut env, request)?;
+    let pairs = request.field_count().saturating_add(fixed::COUNT + 2);
+    let mut env = Env::with_room(alloc, pairs, Input::new(Bytes::new(Vec::new(alloc))))?;
+    refill(&mut env, request, input, peer, local)?;
     Ok(env)
+}
+
+/// Makes an environment anew, whatever it was: it is then the request's, as `env_of` makes it.
+///
+/// What was there gives its room. It takes memory only where that doesn't suffice: none for a request
+/// like the one before. After a refusal the environment has some pairs of the new one, and can be made
+/// anew.
+pub fn refill(
+    env: &mut Env,
+    request: &Request,
+    input: Input,
+    peer: &Peer,
+    local: &Local,
+) -> Result<(), NoMemory>
+    ensures pairs { OnOk result (env.new.pairs ≡ env_pairs (with_body input.bytes request.now) peer.now local.now) }
+    ensures input { OnOk result (env.new.input ≡ input) }
+    ensures whole { input ≡ unread input.bytes → OnOk result (env.new ≡ environment (with_body input.bytes request.now) peer.now local.now) }
+    ensures rules { 0 < length local.now.name → OnOk result (broken_env_rule env.new.pairs ≡ None) }
+{
+    request.soundness();
+    let body = input.all().len();
+    env.clear(input);
+    fixed::put_fixed(env, request, peer, local)?;
+    content::put_content(env, request, body)?;
+    fields::put_fields(env, request)
 }

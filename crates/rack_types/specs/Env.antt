@@ -1,6 +1,5 @@
 -- The environment of a request, which is this project's own: pairs of a name and a value in an order, with distinct names, and an input.
-use Rattle.std.specs.Prelude.{◌≡◌, ℕ, ◌++◌, List, [], ◌∷◌, map, Option, Some, None, IsSome, bytes_eq, if◌then◌else◌, Vec}
-use Rattle.std.specs.declared.alloc.Global.{Global}
+use Rattle.std.specs.Prelude.{◌≡◌, ℕ, ◌++◌, List, [], ◌∷◌, map, Option, Some, None, IsSome, bytes_eq, if◌then◌else◌}
 use Rattle.rack_types.specs.Input.{Reading}
 
 -- names with their values
@@ -43,6 +42,11 @@ abbrev pub extend_pair : List ℕ → List ℕ → Pairs → Pairs
 extend_pair name more [] = []
 extend_pair name more (p ∷ ps) = if bytes_eq name p.0 then (p.0, p.1 ++ more) ∷ ps else p ∷ extend_pair name more ps
 
+-- the name's value goes on with a separator and more; with no such name it is set to more
+abbrev pub add_pair : List ℕ → List ℕ → List ℕ → Pairs → Pairs
+add_pair name separator more [] = (name, more) ∷ []
+add_pair name separator more (p ∷ ps) = if bytes_eq name p.0 then (p.0, p.1 ++ (separator ++ more)) ∷ ps else p ∷ add_pair name separator more ps
+
 -- without the name; the others keep their order
 abbrev pub remove_pair : List ℕ → Pairs → Pairs
 remove_pair name [] = []
@@ -59,7 +63,3 @@ with_pairs e ps = record { pairs = ps; input = e.input }
 -- with this input
 abbrev pub with_input : Environment → Reading → Environment
 with_input e input = record { pairs = e.pairs; input = input }
-
--- the pairs that owned names and values stand for
-abbrev pub pairs_of : List (Vec ℕ Global × Vec ℕ Global) → Pairs
-pairs_of es = map (λ e. (e.0.items, e.1.items)) es

@@ -11,9 +11,11 @@ pub mod Input
 pub mod Kept
 pub mod Lending
 pub mod Limits
+pub mod Name
 pub mod Plain
 pub mod Request
 pub mod RuleWords
 pub mod Rules
 pub mod Runner
 pub mod Sound
+pub mod Table

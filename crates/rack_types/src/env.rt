@@ -1,10 +1,11 @@
 // The environment of a request.
-ghost use Rattle.std.specs.Prelude.{◌≡◌, ◌^◌, ◌<◌, ◌++◌, length, is_some, Some, IfOk, OnOk, OnErr, slice_get, option_copied};
+ghost use Rattle.std.specs.Prelude.{◌≡◌, ◌^◌, ◌<◌, ◌++◌, [], length, is_some, Some, IfOk, OnOk, OnErr, slice_get, option_copied};
 ghost use Rattle.std.specs.Borrow.{sem, Lends};
-ghost use Rattle.rack_types.specs.Env.{names, values, get_pair, set_pair, extend_pair, remove_pair, empty_env, with_pairs, with_input, HasName, AreDistinct};
+ghost use Rattle.rack_types.specs.Env.{names, values, get_pair, set_pair, extend_pair, remove_pair, empty_env, with_pairs, with_input, add_pair, HasName, AreDistinct};
 
 use super::{Bytes, Input, NoMemory};
-use indexmap::IndexMap;
+use crate::name::Given;
+use crate::table::Table;
 use std::alloc::Global;
 use std::marker::Model;
 use std::mem;
@@ -15,18 +16,19 @@ use std::mem;
 /// A contract sees the pairs as a list, and the input as `Input` is seen.
 #[derive(Drop)]
 pub struct Env {
-    map: IndexMap<Vec<u8>, Vec<u8>>,
+    table: Table,
     input: Input,
+    // Room that is lent to those who fill it.
+    room: Bytes,
 }
 
 impl Model for Env {
-    ghost use Rattle.rack_types.specs.Env.{Environment, pairs_of, AreDistinct};
+    ghost use Rattle.rack_types.specs.Env.{Environment};
+    ghost use Rattle.rack_types.specs.Table.{standing};
 
     ghost Value = { Environment };
 
-    ghost view = { λ env. record { pairs = pairs_of env.map.entries; input = env.input } };
-
-    ghost invariant = { λ env. AreDistinct (pairs_of env.map.entries) };
+    ghost view = { λ env. record { pairs = standing env.table; input = env.input } };
 }
 
 impl Env {
@@ -38,8 +40,9 @@ impl Env {
         ensures { result ≡ empty_env input }
     {
         Env {
-            map: IndexMap::new(alloc),
+            table: Table::new(alloc),
             input,
+            room: Bytes::new(Vec::new(alloc)),
         }
     }
 
@@ -48,19 +51,26 @@ impl Env {
         ensures { IfOk result (λ e. e ≡ empty_env input) }
     {
         Ok(Env {
-            map: IndexMap::with_capacity(alloc, pairs)?,
+            table: Table::with_room(alloc, pairs)?,
             input,
+            room: Bytes::new(Vec::new(alloc)),
         })
+    }
+
+    /// Takes all pairs out and puts another input in. It keeps the room of the pairs, for those that
+    /// are set next. This takes no memory.
+    pub fn clear(&mut self, input: Input)
+        ensures { self.new ≡ empty_env input }
+    {
+        self.table.clear();
+        self.input = input;
     }
 
     /// The value of a name. None exactly where the name isn't there.
     pub fn get(&self, name: &[u8]) -> Option<&[u8]>
         ensures { option_copied result ≡ get_pair name.now self.now.pairs }
     {
-        match self.map.get(name) {
-            Some(value) => Some(value.as_slice()),
-            None => None,
-        }
+        self.table.get(name)
     }
 
     /// Sets the value of a name: one that is there keeps its place, a new one goes last.
@@ -70,10 +80,15 @@ impl Env {
         ensures set { OnOk result (self.new ≡ with_pairs self.old (set_pair name.now value.now self.old.pairs)) }
         ensures unchanged { OnErr result (self.new ≡ self.old) }
     {
-        let alloc = *self.map.allocator();
-        let name = Vec::from_slice(alloc, name)?;
-        let value = Vec::from_slice(alloc, value)?;
-        self.set_owned(name, value)
+        self.table.set(Given::Copied(name), value)
+    }
+
+    /// Sets the value of a name as `set` does. The name is lent for ever, and takes no memory.
+    pub fn set_static(&mut self, name: &'static [u8], value: &[u8]) -> Result<(), NoMemory>
+        ensures set { OnOk result (self.new ≡ with_pairs self.old (set_pair name.now value.now self.old.pairs)) }
+        ensures unchanged { OnErr result (self.new ≡ self.old) }
+    {
+        self.table.set(Given::Lent(name), value)
     }
 
     /// Sets the value of a name as `set` does, and takes both over as they are.
@@ -81,8 +96,7 @@ impl Env {
         ensures set { OnOk result (self.new ≡ with_pairs self.old (set_pair name.items value.items self.old.pairs)) }
         ensures unchanged { OnErr result (self.new ≡ self.old) }
     {
-        self.map.insert(name, value)?;
-        Ok(())
+        self.table.set_owned(Bytes::new(name), Bytes::new(value))
     }
 
     /// Lets the value of a name go on with a separator and more bytes. False exactly where the name
@@ -94,11 +108,31 @@ impl Env {
         ensures longer { OnOk result (self.new ≡ with_pairs self.old (extend_pair name.now (separator.now ++ more.now) self.old.pairs)) }
         ensures unchanged { OnErr result (self.new ≡ self.old) }
     {
-        let Some(value) = self.map.get_mut(name) else {
-            return Ok(false);
-        };
-        join(value, separator, more)?;
-        Ok(true)
+        self.table.append(name, separator, more)
+    }
+
+    /// Lets the value of a name go on with a separator and more bytes, or sets it to those bytes where
+    /// the name isn't there.
+    ///
+    /// A refused call changes nothing.
+    pub fn add(&mut self, name: &[u8], separator: &[u8], more: &[u8]) -> Result<(), NoMemory>
+        ensures added { OnOk result (self.new ≡ with_pairs self.old (add_pair name.now separator.now more.now self.old.pairs)) }
+        ensures unchanged { OnErr result (self.new ≡ self.old) }
+    {
+        self.table.add(Given::Copied(name), separator, more)
+    }
+
+    /// Lets the value of a name go on, or sets it, as `add` does. The name is lent for ever.
+    pub fn add_static(
+        &mut self,
+        name: &'static [u8],
+        separator: &[u8],
+        more: &[u8],
+    ) -> Result<(), NoMemory>
+        ensures added { OnOk result (self.new ≡ with_pairs self.old (add_pair name.now separator.now more.now self.old.pairs)) }
+        ensures unchanged { OnErr result (self.new ≡ self.old) }
+    {
+        self.table.add(Given::Lent(name), separator, more)
     }
 
     /// Takes a name out with its value. The others keep their order, and a name that isn't there
@@ -106,7 +140,7 @@ impl Env {
     pub fn remove(&mut self, name: &[u8])
         ensures { self.new ≡ with_pairs self.old (remove_pair name.now self.old.pairs) }
     {
-        self.map.shift_remove(name);
+        self.table.remove(name);
     }
 
     /// Swaps the value of a name that is there with these bytes. This takes no memory.
@@ -115,12 +149,26 @@ impl Env {
         ensures set { self.new ≡ with_pairs self.old (set_pair name.now value.old self.old.pairs) }
         ensures taken { get_pair name.now self.old.pairs ≡ Some value.new }
     {
-        let alloc = *self.map.allocator();
-        let Some(slot) = self.map.get_mut(name) else {
-            return;
-        };
-        let given = mem::replace(value, Bytes::new(Vec::new(alloc)));
-        *value = Bytes::new(mem::replace(slot, given.into_vec()));
+        self.table.replace(name, value);
+    }
+
+    /// Moves room out that is kept beside the pairs, for whoever puts names together. It is empty, and
+    /// as large as what was given back last.
+    pub fn take_room(&mut self) -> Vec<u8>
+        ensures room { result.items ≡ [] }
+        ensures unchanged { self.new ≡ self.old }
+    {
+        let alloc = self.table.allocator();
+        let mut room = mem::replace(&mut self.room, Bytes::new(Vec::new(alloc))).into_vec();
+        room.clear();
+        room
+    }
+
+    /// Gives the room back.
+    pub fn keep_room(&mut self, room: Vec<u8>)
+        ensures { self.new ≡ self.old }
+    {
+        self.room = Bytes::new(room);
     }
 
     /// The number of pairs.
@@ -129,7 +177,7 @@ impl Env {
         ensures distinct { AreDistinct self.now.pairs }
         ensures small { result < 2 ^ 63 }
     {
-        self.map.len()
+        self.table.len()
     }
 
     /// The name at this place, from 0.
@@ -137,8 +185,7 @@ impl Env {
         requires { i < length self.now.pairs }
         ensures { slice_get (names self.now.pairs) i ≡ Some result.now }
     {
-        let (name, _) = self.map.get_index(i).unwrap();
-        name.as_slice()
+        self.table.pair(i).0
     }
 
     /// The value at this place, from 0.
@@ -146,8 +193,7 @@ impl Env {
         requires { i < length self.now.pairs }
         ensures { slice_get (values self.now.pairs) i ≡ Some result.now }
     {
-        let (_, value) = self.map.get_index(i).unwrap();
-        value.as_slice()
+        self.table.pair(i).1
     }
 
     /// The input, to read from.
@@ -157,17 +203,6 @@ impl Env {
     {
         &mut self.input
     }
-}
-
-// Lets a value go on with both parts, or leaves it.
-fn join(value: &mut Vec<u8>, separator: &[u8], more: &[u8]) -> Result<(), NoMemory>
-    ensures longer { OnOk result (value.new.items ≡ value.old.items ++ (separator.now ++ more.now)) }
-    ensures unchanged { OnErr result (value.new.items ≡ value.old.items) }
-{
-    value.reserve(separator.len() + more.len())?;
-    value.extend_from_slice(separator)?;
-    value.extend_from_slice(more)?;
-    Ok(())
 }
 
 #[cfg(test)]

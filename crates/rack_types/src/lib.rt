@@ -12,11 +12,13 @@ mod fault;
 mod headers;
 mod input;
 mod limits;
+mod name;
 mod peer;
 mod plain;
 mod request;
 mod rules;
 mod runner;
+mod table;
 #[cfg(test)]
 mod tests;
 
