@@ -18,6 +18,7 @@ TOOLS = ["cat", "cksum", "cmp", "find", "flock", "mkdir", "readlink", "sed", "sh
 STAND_IN = b"""#!/bin/sh
 echo call >> ../../calls
 echo 'statements std: modules loaded=1 checked=0'
+echo 'rt: puma_cli: another copy is building this library; waiting for it, to use its work'
 echo 'fn puma_cli::main: proved'
 echo 'crate puma_cli: modules loaded=1 checked=1'
 echo 'logic=proved functions=17 sum=0'
@@ -29,7 +30,8 @@ chmod 755 out/puma_cli
 out/puma_cli "$@" < /dev/null
 """
 BUILDS = b"bin/puma: the program is proved and built first; from nothing this takes several minutes\n"
-PROVED = b"bin/puma: puma_cli is proved, 17 functions\n"
+PROVED = (b"bin/puma: puma_cli: another copy is building this library; waiting for it, to use its work\n"
+          b"bin/puma: puma_cli is proved, 17 functions\n")
 
 
 def check_use(checks):
