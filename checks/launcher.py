@@ -6,7 +6,6 @@ That nothing is proved here takes a tree of its own, in which `rt` is a stand-in
 import os
 import shutil
 import subprocess
-import threading
 import time
 
 from program import PUMA, TOP, run, write
@@ -22,7 +21,7 @@ echo 'rt: puma_cli: another copy is building this library; waiting for it, to us
 echo 'fn puma_cli::main: proved'
 echo 'crate puma_cli: modules loaded=1 checked=1'
 echo 'logic=proved functions=17 sum=0'
-if [ -e ../../slow ]; then sleep 0.5; fi
+while [ -e ../../slow ]; do sleep 0.05; done
 if [ -e ../../changes ]; then cat ../../changes >> src/main.rt; fi
 if [ -e ../../broken ]; then echo 'error: this is the first'; echo ' and this its second line' >&2; exit 1; fi
 { echo '#!/bin/sh'; echo "echo '$(cat src/main.rt)' \\"\\$@\\""; echo cat; } > out/puma_cli
@@ -68,7 +67,8 @@ class Tree:
         self.top = os.path.abspath(name)
         for folder in ("bin", "tools", "crates/puma_cli/src", "crates/puma_cli/specs", "crates/puma_cli/data"):
             os.makedirs(self.at(folder))
-        shutil.copy(PUMA, self.at("bin/puma"))
+        for name in ("puma", "made_of"):
+            shutil.copy(os.path.join(os.path.dirname(PUMA), name), self.at("bin/" + name))
         self.write("crates.txt", b"puma_cli:\n")
         self.write("crates/puma_cli/src/main.rt", b"first")
         self.write("crates/puma_cli/specs/Words.antt", b"words")
@@ -84,6 +84,16 @@ class Tree:
 
     def run(self, *words, **how):
         return run(words, program=(self.at("bin/puma"),), env={"PATH": self.at("tools")}, **how)
+
+    def begin(self, name):
+        """Begins a call whose errors go into a file of this name."""
+        with open(self.at(name), "wb") as errors:
+            return subprocess.Popen([self.at("bin/puma")], env={"PATH": self.at("tools")}, stdin=subprocess.DEVNULL,
+                                    stdout=subprocess.DEVNULL, stderr=errors)
+
+    def said(self, name):
+        with open(self.at(name), "rb") as file:
+            return file.read()
 
     def calls(self):
         """How often a build was begun."""
@@ -201,14 +211,22 @@ def check_side_by_side(checks, tree, source):
     """Several calls at once: one builds, and the others say that they wait."""
     tree.write(source, b"sixth")
     tree.write("slow", b"")
-    before, got = tree.calls(), []
-    calls = [threading.Thread(target=lambda: got.append(tree.run())) for _ in range(3)]
-    for call in calls:
-        call.start()
-        time.sleep(0.1)
-    for call in calls:
-        call.join()
-    waits = (0, b"sixth\n", b"bin/puma: waits for another call, which builds the program\n")
-    checks.counts("three calls at once", sorted([(0, b"sixth\n", BUILDS + PROVED), waits, waits]), sorted(got, key=str))
-    checks.counts("three calls at once, how often it is built", before + 1, tree.calls())
+    before = tree.calls()
+    calls = [tree.begin("first")]
+    wait_until(lambda: tree.calls() > before)
+    calls += [tree.begin("second"), tree.begin("third")]
+    wait_until(lambda: tree.said("second") and tree.said("third"))
     os.remove(tree.at("slow"))
+    ended = [call.wait() for call in calls]
+    checks.counts("three calls at once", [0, 0, 0], ended)
+    checks.counts("three calls at once, how often it is built", before + 1, tree.calls())
+    checks.counts("the one that builds", BUILDS + PROVED, tree.said("first"))
+    for name in ("second", "third"):
+        checks.counts(f"the {name}, which waits", b"bin/puma: waits for another call, which builds the program\n", tree.said(name))
+
+
+def wait_until(comes):
+    for _ in range(3000):
+        if comes():
+            return
+        time.sleep(0.01)
