@@ -1,5 +1,6 @@
 """Want of memory: whatever address space the program is left, it answers rightly or says that memory was refused."""
 
+import os
 import resource
 
 from program import PROGRAM, run, write
@@ -28,6 +29,7 @@ def check_memory(checks):
         ("an echo of 1 MiB in chunks", ["once", "echo.stack"], post(CODED, chunks)),
     ]:
         check_less_and_less(checks, name, words, stdin)
+    check_mute(checks)
 
 
 def check_less_and_less(checks, name, words, stdin):
@@ -43,6 +45,16 @@ def check_less_and_less(checks, name, words, stdin):
     checks.counts(f"{name}, other answers by pages of address space", {}, others)
 
 
+def check_mute(checks):
+    """The status is the same where standard error takes nothing."""
+    words, stdin = ["once", "hello.stack"], GET
+    begins = least(lambda space: has_begun(within(space, words, stdin)))
+    checks.answers("standard error closed", (1, b"", b""), within(begins, words, stdin, closed=2))
+    if os.path.exists("/dev/full"):
+        with open("/dev/full", "wb") as full:
+            checks.answers("standard error full", (1, b"", b""), within(begins, words, stdin, stderr=full))
+
+
 def least(serves):
     """The fewest pages that serve, where more serve too."""
     few, many = 0, MOST // PAGE
@@ -52,12 +64,14 @@ def least(serves):
     return many
 
 
-def within(space, words, stdin):
-    """What the program answers within so many pages of address space."""
+def within(space, words, stdin, closed=None, **how):
+    """What the program answers within so many pages of address space, with one stream closed or none."""
     def limit():
         resource.setrlimit(resource.RLIMIT_AS, (space * PAGE, space * PAGE))
+        if closed is not None:
+            os.close(closed)
 
-    return run(words, stdin=stdin, program=(PROGRAM,), preexec_fn=limit, env=NO_PADDING)
+    return run(words, stdin=stdin, program=(PROGRAM,), preexec_fn=limit, env=NO_PADDING, **how)
 
 
 def has_begun(ended):
