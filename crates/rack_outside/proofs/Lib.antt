@@ -1,2 +1,2 @@
 mod CabinetLemmas
-mod FeedLemmas
+mod SupplyLemmas
