@@ -1,2 +1,3 @@
 mod CabinetLemmas
 mod FeedLemmas
+mod LinkLemmas

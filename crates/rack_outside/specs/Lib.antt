@@ -1,7 +1,9 @@
 pub mod Cabinet
 pub mod Feed
 pub mod Files
+pub mod Link
 pub mod Sink
 pub mod Source
 pub mod Told
 pub mod Tray
+pub mod Wire
