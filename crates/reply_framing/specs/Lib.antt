@@ -1,0 +1,11 @@
+pub mod Body
+pub mod Break
+pub mod Broken
+pub mod Coming
+pub mod Fault
+pub mod Form
+pub mod Head
+pub mod Owes
+pub mod PullOrder
+pub mod Reason
+pub mod Reply
