@@ -5,7 +5,7 @@ use Rattle.rack_text.proofs.DecimalLemmas.{decimal_number-decimal}
 use Rattle.rack_types.specs.Env.{Pairs, get_pair}
 use Rattle.rack_types.specs.Fields.{values_of}
 use Rattle.rack_types.specs.Request.{Parts, with_body}
-use Rattle.rack_types.specs.Rules.{broken_env_rule, first_broken, if_there, is_empty, begins_with_slash, breaks_E1, breaks_E2, breaks_E3, breaks_E4, breaks_E5, breaks_E6, breaks_E7, breaks_E8, breaks_E9, breaks_E10}
+use Rattle.rack_types.specs.Rules.{broken_env_rule, env_rule, first_broken, if_there, is_empty, begins_with_slash, breaks_E1, breaks_E2, breaks_E3, breaks_E4, breaks_E5, breaks_E6, breaks_E7, breaks_E8, breaks_E9, breaks_E10}
 use Rattle.rack_types.specs.declared.limits.Version.{Version}
 use Rattle.rack_types.specs.declared.limits.Version.TheVariants.{Http10, Http11}
 use Rattle.rack_types.specs.declared.peer.Local.{Local}
@@ -17,11 +17,11 @@ use Rattle.rack_text.specs.Host.{host_parts}
 use Rattle.rack_env.proofs.NameLemmas.{no_field_pair, length_is_no_field, http_type_is_no_field, http_length_is_no_field}
 
 -- each rule is kept
-abbrev AllKept : List (ℕ × Bool) → Type 0
+abbrev AllKept : {R : Type 0} → List (R × Bool) → Type 0
 AllKept [] = Unit {0}
 AllKept (rule ∷ rules) = (rule.1 ≡ false) × AllKept rules
 
-none_broken : (rules : List (ℕ × Bool)) → AllKept rules → first_broken rules ≡ None
+none_broken : {R : Type 0} (rules : List (R × Bool)) → AllKept rules → first_broken rules ≡ None
 none_broken [] kept = refl
 none_broken (rule ∷ rules) kept = ap (λ b. cond b (Some rule.0) (first_broken rules)) kept.0 ∙ none_broken rules kept.1
 
@@ -149,8 +149,8 @@ module _ (r : Parts) (peer : List ℕ) (local : Local) where
   unfolding broken_env_rule
   keeps_rules sound some small =
       let env = env_pairs r peer local in
-      none_broken ((1, breaks_E1 env) ∷ (2, breaks_E2 env) ∷ (3, breaks_E3 env) ∷ (4, breaks_E4 env) ∷ (5, breaks_E5 env)
-      ∷ (6, breaks_E6 env) ∷ (7, breaks_E7 env) ∷ (8, breaks_E8 env) ∷ (9, breaks_E9 env) ∷ (10, breaks_E10 env) ∷ [])
+      none_broken ((env_rule 1, breaks_E1 env) ∷ (env_rule 2, breaks_E2 env) ∷ (env_rule 3, breaks_E3 env) ∷ (env_rule 4, breaks_E4 env) ∷ (env_rule 5, breaks_E5 env)
+      ∷ (env_rule 6, breaks_E6 env) ∷ (env_rule 7, breaks_E7 env) ∷ (env_rule 8, breaks_E8 env) ∷ (env_rule 9, breaks_E9 env) ∷ (env_rule 10, breaks_E10 env) ∷ [])
       (keeps_E1 sound, (keeps_E2 some, (keeps_E3, (keeps_E4, (keeps_E5, (keeps_E6, (keeps_E7, (keeps_E8 sound, (keeps_E9, (keeps_E10 sound small, tt))))))))))
 
 -- and so is the one with its body
