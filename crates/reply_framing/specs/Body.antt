@@ -2,10 +2,10 @@
 use Rattle.std.specs.Prelude.{ℕ, Bool, true, false, List, [], ◌∷◌, ◌++◌, length, take, Option, None, Some, codes}
 use Rattle.std.specs.List.{flat_map}
 use Rattle.std.specs.Fmt.{digits}
-use Rattle.rack_types.specs.declared.rule.BodyRule.{BodyRule}
+use Rattle.rack_types.specs.declared.rules.BodyRule.{BodyRule}
 use Rattle.reply_framing.specs.declared.types.Form.{Form}
 use Rattle.reply_framing.specs.declared.types.Form.TheVariants.{Bare, Stated, Known, Chunked, Closing}
-use Rattle.reply_framing.specs.Break.{Break, body_break}
+use Rattle.rack_types.specs.BodyRules.{Break, body_break}
 use Rattle.reply_framing.specs.Head.{crlf}
 
 -- a piece as a chunk, its size in lower-case hexadecimal digits; an empty piece has none, since an empty
@@ -52,5 +52,5 @@ abbrev pub rule_of : Option Break → Option BodyRule
 rule_of None = None
 rule_of (Some b) = Some b.rule
 
-abbrev pub body_rule : Form → Option ℕ → List (List ℕ) → Bool → Option BodyRule
-body_rule form promised pieces raises = rule_of (break_in form promised pieces raises)
+abbrev pub rule_in : Form → Option ℕ → List (List ℕ) → Bool → Option BodyRule
+rule_in form promised pieces raises = rule_of (break_in form promised pieces raises)

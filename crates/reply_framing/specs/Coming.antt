@@ -2,7 +2,7 @@
 use Rattle.std.specs.Prelude.{◌≡◌, ◌<◌, ℕ, Bool, false, List, [], ◌++◌, length, Option, None, Some, Result, Ok, Err}
 use Rattle.std.specs.declared.alloc.AllocError.{AllocError}
 use Rattle.circular_buffer.specs.Buffer.{Buffer, buffer}
-use Rattle.rack_types.specs.declared.rule.BodyRule.{BodyRule}
+use Rattle.rack_types.specs.declared.rules.BodyRule.{BodyRule}
 use Rattle.reply_framing.specs.declared.types.After.{After}
 use Rattle.reply_framing.specs.declared.types.After.TheVariants.{Close}
 use Rattle.reply_framing.specs.declared.types.Filled.{Filled}

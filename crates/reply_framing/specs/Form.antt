@@ -6,7 +6,7 @@ use Rattle.rack_text.specs.Lists.{list_has}
 use Rattle.rack_types.specs.declared.limits.Version.{Version}
 use Rattle.rack_types.specs.declared.limits.Version.TheVariants.{Http10, Http11}
 use Rattle.rack_types.specs.Headers.{HeaderList, header_values}
-use Rattle.rack_types.specs.Rules.{is_bare, stated_length}
+use Rattle.rack_types.specs.AnswerRules.{is_bare, stated_length}
 use Rattle.reply_framing.specs.declared.types.After.{After}
 use Rattle.reply_framing.specs.declared.types.After.TheVariants.{Keep, Close, Hijack}
 use Rattle.reply_framing.specs.declared.types.Ask.{Ask}

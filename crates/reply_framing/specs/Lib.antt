@@ -1,6 +1,4 @@
 pub mod Body
-pub mod Break
-pub mod Broken
 pub mod Coming
 pub mod Fault
 pub mod Form

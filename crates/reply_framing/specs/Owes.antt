@@ -2,11 +2,10 @@
 use Rattle.std.specs.Prelude.{◌≡◌, ℕ, Bool, true, false, List, [], ◌++◌, Option, None, Some}
 use Rattle.rack_types.specs.declared.answer.Answer.{Answer}
 use Rattle.rack_types.specs.declared.answer.Answer.TheVariants as answer
+use Rattle.rack_types.specs.declared.rules.Rule.{Rule}
 use Rattle.rack_types.specs.Body.{Content}
-use Rattle.rack_types.specs.Env.{Pairs}
 use Rattle.reply_framing.specs.declared.types.Ask.{Ask}
 use Rattle.reply_framing.specs.declared.types.Form.TheVariants.{Bare}
-use Rattle.reply_framing.specs.Broken.{broken}
 use Rattle.reply_framing.specs.Coming.{Coming, Rest}
 use Rattle.reply_framing.specs.Form.{form_of, promise}
 use Rattle.reply_framing.specs.PullOrder.{AskedNothing}
@@ -34,10 +33,10 @@ AsksNothing ask (answer.Reply status headers body (Some hijacker)) rest = AskedN
 AsksNothing ask (answer.Raised text) rest = AskedNothing rest Bare None [] false
 AsksNothing ask (answer.Taken hijacker) rest = AskedNothing rest Bare None [] false
 
--- the same of an answer that breaks this rule
-abbrev pub AsksNothingBy : {H : Type 0} → Option ℕ → Ask → Answer Content H → Rest → Type 0
+-- the same of an answer that breaks this rule, or none: the body of a broken one is closed
+abbrev pub AsksNothingBy : {H : Type 0} → Option Rule → Ask → Answer Content H → Rest → Type 0
 AsksNothingBy None ask answer rest = AsksNothing ask answer rest
-AsksNothingBy (Some rule) ask answer rest = AskedNothing rest Bare None [] false
+AsksNothingBy (Some broken) ask answer rest = AskedNothing rest Bare None [] false
 
 -- asking the body of the answer for a piece never wants memory
 abbrev pub is_sure : {H : Type 0} → Answer Content H → Bool
