@@ -7,7 +7,7 @@ use Rattle.rack_types.specs.declared.fault.Fault.TheVariants.{F}
 use Rattle.rack_types.specs.Env.{Environment}
 use Rattle.rack_types.specs.Request.{Parts, with_body}
 use Rattle.rack_types.specs.Sound.{IsSound}
-use Rattle.rack_outside.specs.Told.{Appends, Rose}
+use Rattle.rack_outside.specs.Told.{Appends, Rose, appended}
 use Rattle.rack_outside.specs.Source.{Gives, IsWhole}
 use Rattle.rack_outside.specs.declared.source.SourceRead.TheVariants as read
 use Rattle.message_framing.specs.declared.intake.Intake.{Intake}
@@ -38,6 +38,10 @@ whole_begins b piece n r is =
 -- what was appended, and then more
 pub appends_more : {A : Type 0} (old mid new : Option (List A)) (b c : List A) → Appends old mid b → Appends mid new c → Appends old new (b ++ c)
 appends_more old mid new b c first second = λ xs is. second (xs ++ b) (first xs is) ∙ ap Some (append_assoc xs b c)
+
+-- what a source gives or a sink takes is appended, where it tells
+pub appends_of : (old new : Option (List ℕ)) (more : List ℕ) → new ≡ appended old more → Appends old new more
+appends_of old new more is = λ xs e. is ∙ ap (λ (o : Option (List ℕ)). appended o more) e
 
 pub appends_none : {A : Type 0} (old : Option (List A)) → Appends old old []
 appends_none old = λ xs is. is ∙ ap Some (sym (append-nil xs))
@@ -136,7 +140,7 @@ pub feeds : (intake next : Intake) (count n : ℕ) (answer kind : Feed) (old mid
     → length room ≤ piece_limit → Reading intake count old mid → Gives (read.Bytes n) input mid new room → piece ≡ take n room
     → FeedsTo intake piece (Ok answer) next → answer ≡ kind → Feeds intake next count n kind old new
 feeds intake next count n answer kind old mid new input room piece few r gives is feed same =
-    let more : Appends mid new piece = subst (λ (w : List ℕ). Appends mid new w) (sym is) gives.2 in
+    let more : Appends mid new piece = subst (λ (w : List ℕ). Appends mid new w) (sym is) (appends_of mid new (take n room) gives.2) in
     let long : length piece ≡ min n (length room) = ap length is ∙ length-take n room in
     record {
       bytes = r.bytes;

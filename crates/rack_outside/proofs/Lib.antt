@@ -1,2 +1,4 @@
 mod CabinetLemmas
 mod SupplyLemmas
+mod FeedLemmas
+mod LinkLemmas

@@ -36,7 +36,7 @@ gives_at input room copied given n some fits within is =
     let front : take n (copied ++ drop n room) ≡ copied = rw (← many) (take-append_seam copied (drop (length copied) room)) in
     let sized : n ≤ length (copied ++ drop n room) = omega (arith, length-append copied (drop n room)) in
     let seam = take-add given n input in
-    (some, sized, (λ xs e. cc), (λ xs ys e d. (drop (given + n) input, let whole = take-append-drop (given + n) input in cc)))
+    (some, sized, cc, (λ xs ys e d. (drop (given + n) input, let whole = take-append-drop (given + n) input in cc)))
 
 -- the end of the input
 pub ends_at : (input : List ℕ) (given : ℕ) (room : List ℕ) → length input ≤ given

@@ -1,8 +1,10 @@
 pub mod Cabinet
 pub mod Files
 pub mod OneText
+pub mod Link
 pub mod Sink
 pub mod Source
 pub mod Supply
 pub mod Told
 pub mod Tray
+pub mod Wire

@@ -2,7 +2,7 @@
 use Rattle.std.specs.Prelude.{◌≡◌, ℕ, ◌<◌, ◌≤◌, List, ◌++◌, length, take, Option, Some, ⊤}
 use Rattle.rack_outside.specs.declared.source.SourceRead.{SourceRead}
 use Rattle.rack_outside.specs.declared.source.SourceRead.TheVariants.{Bytes, End, Failed}
-use Rattle.rack_outside.specs.Told.{Appends}
+use Rattle.rack_outside.specs.Told.{appended}
 
 -- what was given is a prefix of the input, where the source tells both
 abbrev pub IsPrefix : Option (List ℕ) → Option (List ℕ) → Type 0
@@ -17,7 +17,7 @@ IsWhole given input = (xs ys : List ℕ) → given ≡ Some xs → input ≡ Som
 -- it, and a failed read takes nothing
 abbrev pub Gives : SourceRead → Option (List ℕ) → Option (List ℕ) → Option (List ℕ) → List ℕ → Type 0
 Gives (Bytes n) input old new room =
-    (0 < n) × (n ≤ length room) × Appends old new (take n room) × IsPrefix new input
+    (0 < n) × (n ≤ length room) × (new ≡ appended old (take n room)) × IsPrefix new input
 Gives End input old new room = (new ≡ old) × IsWhole old input
 Gives Failed input old new room = new ≡ old
 

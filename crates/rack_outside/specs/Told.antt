@@ -1,5 +1,5 @@
 -- Counts of faults, and what an object may tell.
-use Rattle.std.specs.Prelude.{◌≡◌, ℕ, ◌+◌, ◌-◌, ◌^◌, ◌≤◌, min, List, ◌++◌, Option, Some}
+use Rattle.std.specs.Prelude.{◌≡◌, ℕ, ◌+◌, ◌-◌, ◌^◌, ◌≤◌, min, List, ◌++◌, Option, None, Some}
 
 -- one more, where the count has not reached its end
 abbrev pub counted : ℕ → ℕ
@@ -12,3 +12,8 @@ Rose old new = counted old ≤ new
 -- where the object tells its list, this was appended to it
 abbrev pub Appends : {A : Type 0} → Option (List A) → Option (List A) → List A → Type 0
 Appends {A} old new more = (xs : List A) → old ≡ Some xs → new ≡ Some (xs ++ more)
+
+-- the list with more behind it. What is not told stays untold
+abbrev pub appended : {A : Type 0} → Option (List A) → List A → Option (List A)
+appended {A} None more = None
+appended {A} (Some xs) more = Some (xs ++ more)

@@ -7,22 +7,32 @@
 #![tactic(auto)]
 
 mod files;
+mod link;
+#[cfg(test)]
+mod link_tests;
 mod mem_files;
+mod mem_link;
 mod mem_sink;
 mod mem_source;
+mod pair_link;
 mod places;
 mod sink;
 mod source;
+mod sure_link;
 mod sure_sink;
 mod sure_source;
 #[cfg(test)]
 mod tests;
 
 pub use files::{FileRead, Files};
+pub use link::{Link, LinkRead, LinkWrite};
 pub use mem_files::MemFiles;
+pub use mem_link::MemLink;
 pub use mem_sink::MemSink;
 pub use mem_source::MemSource;
+pub use pair_link::PairLink;
 pub use sink::{Sink, SinkWrite};
 pub use source::{Source, SourceRead};
+pub use sure_link::SureLink;
 pub use sure_sink::SureSink;
 pub use sure_source::SureSource;

@@ -1,0 +1,53 @@
+-- What a framer still has to append, whatever it holds, and what one `fill` does to it and to the ring.
+use Rattle.std.specs.Prelude.{◌≡◌, ◌<◌, ℕ, Bool, false, List, [], ◌++◌, length, Option, None, Some, Result, Ok, Err}
+use Rattle.std.specs.declared.alloc.AllocError.{AllocError}
+use Rattle.circular_buffer.specs.Buffer.{Buffer, buffer}
+use Rattle.rack_types.specs.declared.rules.BodyRule.{BodyRule}
+use Rattle.reply_framing.specs.declared.types.After.{After}
+use Rattle.reply_framing.specs.declared.types.After.TheVariants.{Close}
+use Rattle.reply_framing.specs.declared.types.Filled.{Filled}
+use Rattle.reply_framing.specs.declared.types.Filled.TheVariants.{Full, Done, Broke}
+use Rattle.reply_framing.specs.declared.types.Form.{Form}
+
+-- the rest of a reply
+pub record Rest : Type 0 where
+  -- the bytes that are still to be appended, to the end or to the break
+  pub bytes : List ℕ
+  -- the rule that the body breaks behind them, none where it ends well
+  pub rule : Option BodyRule
+  -- asking the body for a piece never wants memory
+  pub sure : Bool
+  -- how the pieces are framed
+  pub form : Form
+  -- what is left of the length that was promised, none where none was
+  pub left : Option ℕ
+  -- the pieces that were not taken from the body, and whether it raises behind them
+  pub waiting : List (List ℕ)
+  pub raises : Bool
+
+-- a framer: the rest of its reply, what it tells of the connection now, and who takes it over
+pub record Coming (H : Type 0) : Type 0 where
+  pub rest : Rest
+  pub after : After
+  pub hijacker : Option H
+
+-- some first bytes of what was to come were appended to the ring, and the others are to come
+pub record Appends (old new : List ℕ) (before after : Buffer ℕ) : Type 0 where
+  pub sent : List ℕ
+  pub bytes : old ≡ sent ++ new
+  pub ring : after ≡ buffer (before.items ++ sent) before.capacity
+
+-- the answer of a fill is right of the rest and the ring behind it: the ring is full and bytes remain, all was
+-- appended, all before the break was appended, or the body wanted memory
+abbrev pub IsFilled : Result Filled AllocError → Rest → Buffer ℕ → Type 0
+IsFilled (Ok Full) rest ring = (0 < length rest.bytes) × (length ring.items ≡ ring.capacity)
+IsFilled (Ok Done) rest ring = (rest.bytes ≡ []) × (rest.rule ≡ None)
+IsFilled (Ok (Broke rule)) rest ring = (rest.bytes ≡ []) × (rest.rule ≡ Some rule)
+IsFilled (Err e) rest ring = rest.sure ≡ false
+
+-- behind a break the connection closes
+abbrev pub after_then : Result Filled AllocError → After → After
+after_then (Ok Full) after = after
+after_then (Ok Done) after = after
+after_then (Ok (Broke rule)) after = Close
+after_then (Err e) after = after

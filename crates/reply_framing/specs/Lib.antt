@@ -1,0 +1,9 @@
+pub mod Body
+pub mod Coming
+pub mod Fault
+pub mod Form
+pub mod Head
+pub mod Owes
+pub mod PullOrder
+pub mod Reason
+pub mod Reply

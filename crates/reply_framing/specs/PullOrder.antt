@@ -1,0 +1,42 @@
+-- The order in which a body is asked: its next piece is taken only when the bytes of all pieces before it were
+-- appended. This project's own.
+use Rattle.std.specs.Prelude.{◌≡◌, ℕ, ◌-◌, Bool, List, [], ◌∷◌, ◌++◌, length, Option, None, Some, ⊤}
+use Rattle.std.specs.List.{concat}
+use Rattle.reply_framing.specs.declared.types.Form.{Form}
+use Rattle.reply_framing.specs.declared.types.Form.TheVariants.{Bare}
+use Rattle.reply_framing.specs.Body.{wire, body_bytes}
+use Rattle.reply_framing.specs.Coming.{Rest}
+
+-- what is left of a promised length behind these pieces
+abbrev pub left_behind_all : Option ℕ → List (List ℕ) → Option ℕ
+left_behind_all None pieces = None
+left_behind_all (Some p) pieces = Some (p - length (concat pieces))
+
+-- the bytes that those pieces make which were not taken from the body
+abbrev pub later : Rest → List ℕ
+later rest = body_bytes rest.form rest.left rest.waiting rest.raises
+
+-- the whole is some bytes and then the rest
+abbrev pub IsRestOf : List ℕ → List ℕ → Type 0
+IsRestOf rest whole = (front : List ℕ) × (whole ≡ front ++ rest)
+
+-- behind these pieces, which were taken: at most the last one's bytes are still to be appended before those of
+-- the pieces that were not taken
+abbrev pub IsLate : List (List ℕ) → Rest → Type 0
+IsLate [] rest = ⊤
+IsLate (piece ∷ []) rest = IsRestOf rest.bytes (wire rest.form piece ++ later rest)
+IsLate (piece ∷ next ∷ pieces) rest = IsLate (next ∷ pieces) rest
+
+-- some pieces were taken, each only when all bytes before it were appended
+pub record Pulls (old new : Rest) : Type 0 where
+  pub taken : List (List ℕ)
+  pub given : old.waiting ≡ taken ++ new.waiting
+  pub left : new.left ≡ left_behind_all old.left taken
+  pub late : IsLate taken new
+
+-- no piece was taken
+pub record AskedNothing (rest : Rest) (form : Form) (promised : Option ℕ) (pieces : List (List ℕ)) (raises : Bool) : Type 0 where
+  pub form_is : rest.form ≡ form
+  pub left_is : rest.left ≡ promised
+  pub waiting_is : rest.waiting ≡ pieces
+  pub raises_is : rest.raises ≡ raises

@@ -1,0 +1,7 @@
+//! Reply framing: an answer as the bytes of a reply (RFC 9112, sections 4 to 9), put into a ring as
+//! there is room, while the body is pulled piece by piece.
+#![tactic(auto)]
+
+mod types;
+
+pub use types::{After, Ask, Filled};

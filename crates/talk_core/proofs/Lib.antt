@@ -1,0 +1,5 @@
+mod CompareLemmas
+mod EndedLemmas
+mod RetellLemmas
+mod StandsLemmas
+mod TalkLemmas

@@ -1,0 +1,7 @@
+pub mod Asked
+pub mod Ended
+pub mod Laws
+pub mod Stands
+pub mod Tail
+pub mod Talk
+pub mod Teller
