@@ -1,1 +1,6 @@
+mod AppendLemmas
+mod BodyLemmas
+mod FillLemmas
+mod HexLemmas
+mod PullLemmas
 mod WorkedRows

@@ -2,8 +2,10 @@ pub mod Body
 pub mod Coming
 pub mod Fault
 pub mod Form
+pub mod Framed
 pub mod Head
 pub mod Owes
+pub mod Pull
 pub mod PullOrder
 pub mod Reason
 pub mod Reply

@@ -2,6 +2,13 @@
 //! there is room, while the body is pulled piece by piece.
 #![tactic(auto)]
 
+mod form;
+mod framed;
+mod head;
+mod hex;
+mod pull;
+mod reason;
 mod types;
+mod watch;
 
 pub use types::{After, Ask, Filled};
