@@ -17,9 +17,11 @@ use Rattle.message_framing.specs.Request.{Refusal, IsRequest, Begins, Wanting, w
 use Rattle.message_framing.specs.Intake.{Fed, IsRight, taken, FeedsTo}
 use Rattle.puma_top.specs.Stack as stack
 use Rattle.puma_top.specs.Stack.{Endpoint}
-use Rattle.puma_top.specs.Reply.{endpoint_reply, fault_reply}
+use Rattle.reply_framing.specs.Fault.{fault_reply}
+use Rattle.puma_top.specs.Reply.{endpoint_reply}
 use Rattle.puma_top.specs.Served.{request_reply}
-use Rattle.puma_top.specs.Once.{First, refused, request, wanting, Stands, piece_limit, Stops, Arrives, Admits, BreaksOff, TakesIn, Sends, Ends}
+use Rattle.puma_top.specs.Once.{First, refused, request, wanting, piece_limit, Stops, BreaksOff}
+use Rattle.puma_top.specs.OnceSteps.{Stands, Arrives, Admits, TakesIn, Sends, Ends}
 use Rattle.puma_top.specs.declared.once.Came.{Came}
 use Rattle.puma_top.specs.declared.once.Came.TheVariants as came
 use Rattle.puma_top.specs.declared.status.Status.{Status}
@@ -191,14 +193,14 @@ admitted intake next count n m result old new input before after f admits =
     begins = whole_begins f.bytes f.piece m f.right.1.0 f.right.1.1
 
     go : (a : Result Came Status) → Admits a f.right.1.0 → TakesIn a old new input before after
-    go (Ok (came.Served env)) h = record {
+    go (Ok (came.Asked env)) h = record {
       bytes = f.bytes ++ f.piece;
       given = f.given;
       stops = feeds_stops f.bytes f.piece f.short f.waits;
       stands = (length (f.bytes ++ take m f.piece), f.right.1.0, begins, h.0, h.1);
       ends = tt;
     }
-    go (Ok came.Unserved) h = record {
+    go (Ok came.Unbuilt) h = record {
       bytes = f.bytes ++ f.piece;
       given = f.given;
       stops = feeds_stops f.bytes f.piece f.short f.waits;
@@ -240,9 +242,9 @@ reply_not_empty (stack.text kind body) r none = cc
 reply_not_empty stack.echo r none = cc
 
 -- the reply to a request that is served, whose body the environment holds
-pub replies_served : (endpoint : Endpoint) (bytes text : List ℕ) (env : Environment) → Stands (came.Served env) bytes
+pub replies_asked : (endpoint : Endpoint) (bytes text : List ℕ) (env : Environment) → Stands (came.Asked env) bytes
     → ((r : Parts) → env.input.bytes ≡ r.body → text ≡ endpoint_reply endpoint r) → Replies endpoint bytes text
-replies_served endpoint bytes text env stands replies =
+replies_asked endpoint bytes text env stands replies =
     let is : text ≡ endpoint_reply endpoint stands.1 = replies stands.1 (ap (λ i. i.bytes) stands.4.input) in
     record {
       first = request stands.0 stands.1 stands.2
@@ -250,8 +252,8 @@ replies_served endpoint bytes text env stands replies =
       some = λ none. reply_not_empty endpoint stands.1 (sym is ∙ none);
     }
 
-pub replies_unserved : (endpoint : Endpoint) (bytes text : List ℕ) → Stands came.Unserved bytes → text ≡ fault_reply (F 0) → Replies endpoint bytes text
-replies_unserved endpoint bytes text stands is = record {
+pub replies_unbuilt : (endpoint : Endpoint) (bytes text : List ℕ) → Stands came.Unbuilt bytes → text ≡ fault_reply (F 0) → Replies endpoint bytes text
+replies_unbuilt endpoint bytes text stands is = record {
   first = request stands.0 stands.1 stands.2
       (is ∙ ap (λ (b : Bool). if b then endpoint_reply endpoint stands.1 else fault_reply (F 0)) (sym stands.3));
   some = λ none. (let clash : fault_reply (F 0) ≡ [] = sym is ∙ none in cc);

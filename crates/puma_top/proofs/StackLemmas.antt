@@ -9,7 +9,8 @@ use Rattle.std.proofs.lemmas.List.{append_cancel_left, append_cancel_right}
 use Rattle.std.proofs.lemmas.List.Sums.{passes_at_first, split_at_first}
 use Rattle.std.proofs.lemmas.List.Folds.{list_all-append}
 use Rattle.puma_top.specs.Stack as stack
-use Rattle.puma_top.specs.Stack.{is_word_byte, is_word, Endpoint, stack_line, HasWords, IsStack, IsNoStack, is_space, has_no_space, SplitsAtSpace, DropsFeed}
+use Rattle.puma_top.specs.Stack.{is_word_byte, is_word, Endpoint, stack_line, HasWords, IsStack, IsNoStack}
+use Rattle.puma_top.specs.StackLine.{is_space, has_no_space, SplitsAtSpace, DropsFeed}
 
 -- the bytes before the first space are one list
 first_space : (a c x y : List ℕ) → has_no_space a ≡ true → has_no_space c ≡ true → a ++ (32 ∷ x) ≡ c ++ (32 ∷ y) → (a ≡ c) × (x ≡ y)

@@ -1,7 +1,11 @@
 pub mod Once
+pub mod OnceSteps
 pub mod Quiet
+pub mod QuietSteps
 pub mod Reply
+pub mod Seen
 pub mod Served
 pub mod Stack
+pub mod StackLine
 pub mod Status
 pub mod Words

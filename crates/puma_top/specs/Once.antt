@@ -1,21 +1,13 @@
--- What one connection's bytes are answered by.
-use Rattle.std.specs.Prelude.{◌≡◌, ℕ, ◌<◌, ◌≤◌, ◌⊎◌, true, false, List, [], ◌++◌, length, take, Option, None, Result, Ok, Err, ⊤}
+-- What one connection's bytes are answered by, and how much of it was read and written.
+use Rattle.std.specs.Prelude.{◌≡◌, ℕ, ◌<◌, ◌≤◌, List, [], ◌++◌, length, take, Option}
 use Rattle.rack_types.specs.declared.fault.Fault.{Fault}
-use Rattle.rack_types.specs.Env.{Environment}
-use Rattle.rack_types.specs.Input.{unread}
 use Rattle.rack_types.specs.Request.{Parts}
-use Rattle.rack_types.specs.Rules.{broken_env_rule}
-use Rattle.rack_env.specs.Environment.{env_pairs}
-use Rattle.rack_outside.specs.Told.{Rose, Appends}
+use Rattle.rack_outside.specs.Told.{Appends}
 use Rattle.rack_outside.specs.Source.{IsWhole}
 use Rattle.message_framing.specs.Request.{Begins, Refusal, Wanting}
+use Rattle.reply_framing.specs.Fault.{fault_reply}
 use Rattle.puma_top.specs.Stack.{Endpoint}
-use Rattle.puma_top.specs.Reply.{fault_reply}
-use Rattle.puma_top.specs.Served.{is_served, request_reply, once_peer, once_local}
-use Rattle.puma_top.specs.declared.status.Status.{Status}
-use Rattle.puma_top.specs.declared.status.Status.TheVariants.{Done, NoMemory, Usage, File, Stack, SourceFault, SinkFault}
-use Rattle.puma_top.specs.declared.once.Came.{Came}
-use Rattle.puma_top.specs.declared.once.Came.TheVariants.{Served, Unserved, Refused, Nothing}
+use Rattle.puma_top.specs.Served.{request_reply}
 
 -- the first thing that stands in these bytes, a refusal or a request, is answered by what is
 -- written; nothing is written where neither stands
@@ -23,27 +15,6 @@ pub data First (endpoint : Endpoint) (bytes written : List ℕ) : Type 0 where
   refused : (fault : Fault) → Refusal bytes fault → written ≡ fault_reply fault → First endpoint bytes written
   request : (n : ℕ) (request : Parts) → Begins bytes n request → written ≡ request_reply endpoint request → First endpoint bytes written
   wanting : Wanting bytes → written ≡ [] → First endpoint bytes written
-
--- the environment of this request, with its body as input; it breaks no rule
-pub record IsEnvironmentOf (env : Environment) (request : Parts) : Type 0 where
-  pub pairs : env.pairs ≡ env_pairs request once_peer once_local
-  pub input : env.input ≡ unread request.body
-  pub rules : broken_env_rule env.pairs ≡ None
-
--- what stands in these bytes: of a request that is served, its environment
-abbrev pub Stands : Came → List ℕ → Type 0
-Stands (Served env) bytes =
-    (n : ℕ) × (request : Parts) × Begins bytes n request × (is_served request ≡ true) × IsEnvironmentOf env request
-Stands Unserved bytes = (n : ℕ) × (request : Parts) × Begins bytes n request × (is_served request ≡ false)
-Stands (Refused fault) bytes = Refusal bytes fault
-Stands Nothing bytes = Wanting bytes
-
--- the input was read to its end, where nothing stands
-abbrev pub EndsIfNothing : Came → Option (List ℕ) → Option (List ℕ) → Type 0
-EndsIfNothing (Served env) given input = ⊤
-EndsIfNothing Unserved given input = ⊤
-EndsIfNothing (Refused fault) given input = ⊤
-EndsIfNothing Nothing given input = IsWhole given input
 
 -- the bytes that one read may give
 abbrev pub piece_limit : ℕ
@@ -57,60 +28,17 @@ pub record Stops (bytes : List ℕ) : Type 0 where
   pub short : length piece ≤ piece_limit
   pub wanting : Wanting before
 
--- what was read, and what stands in it
-pub record Arrives (came : Came) (old new input : Option (List ℕ)) : Type 0 where
-  pub bytes : List ℕ
-  pub given : Appends old new bytes
-  pub stops : Stops bytes
-  pub stands : Stands came bytes
-  pub ends : EndsIfNothing came new input
-
--- a whole request was looked at, and its environment made
-abbrev pub Admits : Result Came Status → Parts → Type 0
-Admits (Ok (Served env)) r = (is_served r ≡ true) × IsEnvironmentOf env r
-Admits (Ok Unserved) r = is_served r ≡ false
-Admits (Ok (Refused fault)) r = ⊥
-Admits (Ok Nothing) r = ⊥
-Admits (Err Done) r = ⊥
-Admits (Err NoMemory) r = ⊤
-Admits (Err Usage) r = ⊥
-Admits (Err (File why)) r = ⊥
-Admits (Err (Stack line rule)) r = ⊥
-Admits (Err SourceFault) r = ⊥
-Admits (Err SinkFault) r = ⊥
-
 -- a read failed while nothing stood in what was given
 pub record BreaksOff (old new : Option (List ℕ)) : Type 0 where
   pub bytes : List ℕ
   pub given : Appends old new bytes
   pub wanting : Wanting bytes
 
--- reading until something stands
-abbrev pub TakesIn : Result Came Status → Option (List ℕ) → Option (List ℕ) → Option (List ℕ) → ℕ → ℕ → Type 0
-TakesIn (Ok came) old new input before after = Arrives came old new input
-TakesIn (Err Done) old new input before after = ⊥
-TakesIn (Err NoMemory) old new input before after = ⊤
-TakesIn (Err Usage) old new input before after = ⊥
-TakesIn (Err (File why)) old new input before after = ⊥
-TakesIn (Err (Stack line rule)) old new input before after = ⊥
-TakesIn (Err SourceFault) old new input before after = BreaksOff old new × Rose before after
-TakesIn (Err SinkFault) old new input before after = ⊥
-
 -- a part of the text was written, and not all of it
 pub record WritesPart (text : List ℕ) (old new : Option (List ℕ)) : Type 0 where
   pub count : ℕ
   pub less : count < length text
   pub written : Appends old new (take count text)
-
--- writing a whole text
-abbrev pub Sends : Status → List ℕ → Option (List ℕ) → Option (List ℕ) → ℕ → ℕ → Type 0
-Sends Done text old new before after = Appends old new text
-Sends NoMemory text old new before after = WritesPart text old new
-Sends Usage text old new before after = ⊥
-Sends (File why) text old new before after = ⊥
-Sends (Stack line rule) text old new before after = ⊥
-Sends SourceFault text old new before after = ⊥
-Sends SinkFault text old new before after = WritesPart text old new × Rose before after
 
 -- the first thing that stands in what was given is answered by what was written; no more was read behind
 -- bytes in which nothing stood than one read may give, and either something was written or the input was
@@ -132,18 +60,3 @@ pub record AnsweredInPart (endpoint : Endpoint) (given_old given_new written_old
   pub first : First endpoint bytes text
   pub stops : Stops bytes
   pub part : WritesPart text written_old written_new
-
--- how one connection ends, by its status
-abbrev pub Ends : Status → Endpoint → Option (List ℕ) → Option (List ℕ) → Option (List ℕ) → ℕ → ℕ
-    → Option (List ℕ) → Option (List ℕ) → ℕ → ℕ → Type 0
-Ends Done endpoint given_old given_new input reads reads_then written_old written_new writes writes_then =
-    Answered endpoint given_old given_new input written_old written_new
-Ends NoMemory endpoint given_old given_new input reads reads_then written_old written_new writes writes_then =
-    (written_new ≡ written_old) ⊎ AnsweredInPart endpoint given_old given_new written_old written_new
-Ends Usage endpoint given_old given_new input reads reads_then written_old written_new writes writes_then = ⊥
-Ends (File why) endpoint given_old given_new input reads reads_then written_old written_new writes writes_then = ⊥
-Ends (Stack line rule) endpoint given_old given_new input reads reads_then written_old written_new writes writes_then = ⊥
-Ends SourceFault endpoint given_old given_new input reads reads_then written_old written_new writes writes_then =
-    BreaksOff given_old given_new × Rose reads reads_then × (written_new ≡ written_old)
-Ends SinkFault endpoint given_old given_new input reads reads_then written_old written_new writes writes_then =
-    Rose writes writes_then × AnsweredInPart endpoint given_old given_new written_old written_new

@@ -1,102 +1,114 @@
--- What a command did, as its words, its files, its source and its sink tell.
-use Rattle.std.specs.Prelude.{◌≡◌, ℕ, ◌≤◌, ◌⊎◌, List, ◌∷◌, length, Option, None, Some, Result, Ok, Err, ⊤}
+-- What a command did, as its files, its source and its sink show it before and behind it. This project's own.
+use Rattle.std.specs.Prelude.{◌≡◌, ◌↔◌, ℕ, ◌≤◌, ◌⊎◌, List, [], ◌∷◌, ◌++◌, length, Option, None, Some, Ok}
 use Rattle.rack_outside.specs.declared.files.FileRead.{FileRead}
 use Rattle.rack_outside.specs.declared.files.FileRead.TheVariants as read
 use Rattle.rack_outside.specs.Told.{Rose}
 use Rattle.rack_outside.specs.Files.{Shelf, Answers, Notes}
+use Rattle.rack_outside.specs.Source.{IsPrefix}
+use Rattle.puma_top.specs.Seen.{FileReads, FilesSeen, Seen}
+use Rattle.puma_top.specs.Words.{Command, once}
 use Rattle.puma_top.specs.Stack.{stack_limit, Endpoint, IsStack, IsNoStack}
 use Rattle.puma_top.specs.Once.{Answered, AnsweredInPart, BreaksOff}
+use Rattle.puma_top.specs.Status.{UnlessNoMemory}
+use Rattle.puma_top.specs.declared.status.FileWhy.{FileWhy}
 use Rattle.puma_top.specs.declared.status.FileWhy.TheVariants.{Absent, Long, Failed}
 use Rattle.puma_top.specs.declared.status.Status.{Status}
 use Rattle.puma_top.specs.declared.status.Status.TheVariants.{Done, NoMemory, Usage, File, Stack, SourceFault, SinkFault}
 
--- the reads of files so far: each name with its answer
-abbrev pub Reads : Type 0
-Reads = List (List ℕ × FileRead)
-
 -- the file of this name was read once, with that answer
-pub record Read (name : List ℕ) (answer : FileRead) (held holds : Option Shelf) (noted notes : Option Reads) : Type 0 where
-  pub answers : Answers (Ok answer) name stack_limit held holds
-  pub noting : Notes (Ok answer) name noted notes
+pub record ReadOnce (name : List ℕ) (answer : FileRead) (old new : FilesSeen) : Type 0 where
+  pub answers : Answers (Ok answer) name stack_limit old.holds new.holds
+  pub noting : Notes (Ok answer) name old.texts new.texts
 
--- the file that the words name was read once, with that answer
-pub record ReadNamed (file : Option (List ℕ)) (answer : FileRead) (held holds : Option Shelf) (noted notes : Option Reads) : Type 0 where
+-- the stack file that the command names was read once, with that answer
+pub record ReadStack (command : Option Command) (answer : FileRead) (old new : FilesSeen) : Type 0 where
   pub name : List ℕ
-  pub named : file ≡ Some name
-  pub was : Read name answer held holds noted notes
+  pub named : command ≡ Some (once name)
+  pub was : ReadOnce name answer old new
 
--- reading the stack file
-abbrev pub Opens : Result (List ℕ) Status → List ℕ → Option Shelf → Option Shelf → Option Reads → Option Reads → ℕ → ℕ → Type 0
-Opens (Ok text) name held holds noted notes before after = Read name (read.Text text) held holds noted notes
-Opens (Err Done) name held holds noted notes before after = ⊥
-Opens (Err NoMemory) name held holds noted notes before after = ⊤
-Opens (Err Usage) name held holds noted notes before after = ⊥
-Opens (Err (File Absent)) name held holds noted notes before after = Read name read.Absent held holds noted notes
-Opens (Err (File Long)) name held holds noted notes before after = Read name read.Long held holds noted notes
-Opens (Err (File Failed)) name held holds noted notes before after =
-    Read name read.Failed held holds noted notes × Rose before after
-Opens (Err (Stack line rule)) name held holds noted notes before after = ⊥
-Opens (Err SourceFault) name held holds noted notes before after = ⊥
-Opens (Err SinkFault) name held holds noted notes before after = ⊥
-
--- the file that the words name is no stack
-pub record IsBadStack (file : Option (List ℕ)) (held holds : Option Shelf) (noted notes : Option Reads) : Type 0 where
+-- it is no stack
+pub record IsBadStack (command : Option Command) (old new : FilesSeen) : Type 0 where
   pub text : List ℕ
-  pub was : ReadNamed file (read.Text text) held holds noted notes
+  pub was : ReadStack command (read.Text text) old new
   pub bad : IsNoStack text
 
--- the file that the words name is the stack that answers so
-pub record IsGoodStack (file : Option (List ℕ)) (endpoint : Endpoint) (held holds : Option Shelf) (noted notes : Option Reads) : Type 0 where
+-- it is the stack that answers so
+pub record IsGoodStack (command : Option Command) (endpoint : Endpoint) (old new : FilesSeen) : Type 0 where
   pub text : List ℕ
-  pub was : ReadNamed file (read.Text text) held holds noted notes
+  pub was : ReadStack command (read.Text text) old new
   pub good : IsStack text endpoint
 
--- the words name a file that is held, and its next text is a stack within the limit
-pub record IsReady (file : Option (List ℕ)) (held : Option Shelf) : Type 0 where
+-- the connection was answered, whole, by the stack that the command names
+pub record Served (command : Option Command) (old new : Seen) : Type 0 where
+  pub endpoint : Endpoint
+  pub stack : IsGoodStack command endpoint old.files new.files
+  pub answered : Answered endpoint old.source.given new.source.given new.source.input old.sink.written new.sink.written
+
+-- the same, with a part of the answer written, and not all of it
+pub record ServedInPart (command : Option Command) (old new : Seen) : Type 0 where
+  pub endpoint : Endpoint
+  pub stack : IsGoodStack command endpoint old.files new.files
+  pub answered : AnsweredInPart endpoint old.source.given new.source.given old.sink.written new.sink.written
+
+-- a read of the connection failed while nothing stood in what came, and nothing was written
+pub record CutOff (command : Option Command) (old new : Seen) : Type 0 where
+  pub endpoint : Endpoint
+  pub stack : IsGoodStack command endpoint old.files new.files
+  pub rose : Rose old.source.faults new.source.faults
+  pub waits : BreaksOff old.source.given new.source.given
+  pub unwritten : new.sink.written ≡ old.sink.written
+
+-- a write to the connection failed, in the middle of the answer
+pub record WriteFailed (command : Option Command) (old new : Seen) : Type 0 where
+  pub rose : Rose old.sink.faults new.sink.faults
+  pub part : ServedInPart command old new
+
+-- the stack file was not read, and why
+abbrev pub NotRead : FileWhy → Option Command → FilesSeen → FilesSeen → Type 0
+NotRead Absent command old new = ReadStack command read.Absent old new
+NotRead Long command old new = ReadStack command read.Long old new
+NotRead Failed command old new = ReadStack command read.Failed old new × Rose old.faults new.faults
+
+-- the command names a file that is held, and its next text is a stack within the limit
+pub record IsReady (command : Option Command) (old : FilesSeen) : Type 0 where
   pub name : List ℕ
   pub shelf : Shelf
   pub text : List ℕ
   pub more : List (List ℕ)
   pub endpoint : Endpoint
-  pub named : file ≡ Some name
-  pub tells : held ≡ Some shelf
+  pub named : command ≡ Some (once name)
+  pub tells : old.holds ≡ Some shelf
   pub next : shelf name ≡ text ∷ more
   pub fits : length text ≤ stack_limit
   pub good : IsStack text endpoint
 
--- the connection was answered by the stack that the words name
-pub record Served (file : Option (List ℕ)) (held holds : Option Shelf) (noted notes : Option Reads)
-    (given_old given_new input written_old written_new : Option (List ℕ)) : Type 0 where
-  pub endpoint : Endpoint
-  pub stack : IsGoodStack file endpoint held holds noted notes
-  pub answered : Answered endpoint given_old given_new input written_old written_new
+-- no count of faults rose
+pub record NoFault (old new : Seen) : Type 0 where
+  pub files : ¬ (Rose old.files.faults new.files.faults)
+  pub source : ¬ (Rose old.source.faults new.source.faults)
+  pub sink : ¬ (Rose old.sink.faults new.sink.faults)
 
--- the same, with a part of the answer written, and not all of it
-pub record ServedInPart (file : Option (List ℕ)) (held holds : Option Shelf) (noted notes : Option Reads)
-    (given_old given_new written_old written_new : Option (List ℕ)) : Type 0 where
-  pub endpoint : Endpoint
-  pub stack : IsGoodStack file endpoint held holds noted notes
-  pub answered : AnsweredInPart endpoint given_old given_new written_old written_new
-
--- what is known of a command that ended, by its status
-abbrev pub Ran : Status → Option (List ℕ) → Option Shelf → Option Shelf → Option Reads → Option Reads → ℕ → ℕ
-    → Option (List ℕ) → Option (List ℕ) → Option (List ℕ) → ℕ → ℕ → Option (List ℕ) → Option (List ℕ) → ℕ → ℕ → Type 0
-Ran Done file held holds noted notes fails fails_then given_old given_new input reads reads_then written_old written_new writes writes_then =
-    Served file held holds noted notes given_old given_new input written_old written_new
-Ran NoMemory file held holds noted notes fails fails_then given_old given_new input reads reads_then written_old written_new writes writes_then =
-    ((name : List ℕ) × (file ≡ Some name))
-    × ((written_new ≡ written_old) ⊎ ServedInPart file held holds noted notes given_old given_new written_old written_new)
-Ran Usage file held holds noted notes fails fails_then given_old given_new input reads reads_then written_old written_new writes writes_then =
-    file ≡ None
-Ran (File Absent) file held holds noted notes fails fails_then given_old given_new input reads reads_then written_old written_new writes writes_then =
-    ReadNamed file read.Absent held holds noted notes
-Ran (File Long) file held holds noted notes fails fails_then given_old given_new input reads reads_then written_old written_new writes writes_then =
-    ReadNamed file read.Long held holds noted notes
-Ran (File Failed) file held holds noted notes fails fails_then given_old given_new input reads reads_then written_old written_new writes writes_then =
-    ReadNamed file read.Failed held holds noted notes × Rose fails fails_then
-Ran (Stack line rule) file held holds noted notes fails fails_then given_old given_new input reads reads_then written_old written_new writes writes_then =
-    (line ≡ 1) × (rule ≡ 0) × IsBadStack file held holds noted notes
-Ran SourceFault file held holds noted notes fails fails_then given_old given_new input reads reads_then written_old written_new writes writes_then =
-    ((endpoint : Endpoint) × IsGoodStack file endpoint held holds noted notes) × BreaksOff given_old given_new × Rose reads reads_then × (written_new ≡ written_old)
-Ran SinkFault file held holds noted notes fails fails_then given_old given_new input reads reads_then written_old written_new writes writes_then =
-    ServedInPart file held holds noted notes given_old given_new written_old written_new × Rose writes writes_then
+-- what a command did, by its status, and which status it had to have
+pub record Ran (command : Option Command) (status : Status) (old new : Seen) : Type 0 where
+  -- the words are no command
+  pub usage : status ≡ Usage ↔ command ≡ None
+  -- all was answered
+  pub done : status ≡ Done → Served command old new
+  -- the stack file was not read
+  pub file : (why : FileWhy) → status ≡ File why → NotRead why command old.files new.files
+  -- it is no stack: always line 1, rule 0
+  pub stack : (line rule : ℕ) → status ≡ Stack line rule → (line ≡ 1) × (rule ≡ 0) × IsBadStack command old.files new.files
+  -- a text that was read and is no stack is answered so
+  pub bad_stack : (name text : List ℕ) (before : FileReads) → old.files.texts ≡ Some before
+      → new.files.texts ≡ Some (before ++ ((name, read.Text text) ∷ [])) → IsNoStack text → UnlessNoMemory status (status ≡ Stack 1 0)
+  -- a read failed
+  pub source_fault : status ≡ SourceFault → CutOff command old new
+  -- a write failed
+  pub sink_fault : status ≡ SinkFault → WriteFailed command old new
+  -- memory was refused: nothing was written, or a part of the answer
+  pub no_memory : status ≡ NoMemory → (new.sink.written ≡ old.sink.written) ⊎ ServedInPart command old new
+  -- with good words and a good stack it is Done, unless a count of faults rose
+  pub complete : IsReady command old.files → NoFault old new → UnlessNoMemory status (status ≡ Done)
+  -- the source's input stays, and what came is a prefix of it
+  pub same : new.source.input ≡ old.source.input
+  pub prefix : IsPrefix old.source.given old.source.input → IsPrefix new.source.given new.source.input

@@ -8,7 +8,8 @@ use Rattle.rack_types.specs.declared.limits.Version.{Version}
 use Rattle.rack_types.specs.declared.limits.Version.TheVariants.{Http10, Http11}
 use Rattle.rack_types.specs.declared.peer.Local.{Local}
 use Rattle.puma_top.specs.Stack.{Endpoint}
-use Rattle.puma_top.specs.Reply.{endpoint_reply, fault_reply}
+use Rattle.reply_framing.specs.Fault.{fault_reply}
+use Rattle.puma_top.specs.Reply.{endpoint_reply}
 
 -- by the version, the method and whether the connection may go on behind the request
 abbrev pub is_served_by : Version → List ℕ → Bool → Bool

@@ -4,8 +4,8 @@ ghost use Rattle.rack_types.specs.Request.{Parts};
 ghost use Rattle.message_framing.specs.Intake.{Fed};
 ghost use Rattle.message_framing.specs.Request.{IsRequest};
 ghost use Rattle.rack_outside.specs.Source.{IsPrefix};
-ghost use Rattle.puma_top.specs.Stack.{endpoint_of};
-ghost use Rattle.puma_top.specs.Once.{Ends, Admits, TakesIn, Sends};
+ghost use Rattle.puma_top.specs.StackLine.{endpoint_of};
+ghost use Rattle.puma_top.specs.OnceSteps.{Ends, Admits, TakesIn, Sends};
 
 use crate::Status;
 use crate::reply::{endpoint_reply, fault_reply};
@@ -23,9 +23,9 @@ const PIECE: usize = 16_384;
 #[derive(Drop)]
 pub(crate) enum Came {
     /// A whole request that the stack answers, as its environment, whose input is its body.
-    Served(Env),
+    Asked(Env),
     /// A whole request whose reply is not built yet.
-    Unserved,
+    Unbuilt,
     /// Bytes that are refused.
     Refused(Fault),
     /// The end of the input, and neither of the two before it.
@@ -50,8 +50,8 @@ pub(crate) fn once<S: Source, K: Sink>(
         Err(status) => return status,
     };
     let reply = match came {
-        Came::Served(mut env) => endpoint_reply(alloc, stack, env.input().all()),
-        Came::Unserved => fault_reply(alloc, Fault::F(0)),
+        Came::Asked(mut env) => endpoint_reply(alloc, stack, env.input().all()),
+        Came::Unbuilt => fault_reply(alloc, Fault::F(0)),
         Came::Refused(fault) => fault_reply(alloc, fault),
         Came::Nothing => return Status::Done,
     };
@@ -104,11 +104,11 @@ fn admit(alloc: Global, intake: &mut Intake) -> Result<Came, Status>
     ensures { (b : List ℕ) (r : Parts) → Fed intake.old b → IsRequest b r → Admits result r }
 {
     if !is_served(intake.request().unwrap()) {
-        return Ok(Came::Unserved);
+        return Ok(Came::Unbuilt);
     }
     let input = intake.take_input();
     match environment(alloc, intake.request().unwrap(), input) {
-        Ok(env) => Ok(Came::Served(env)),
+        Ok(env) => Ok(Came::Asked(env)),
         Err(_) => Err(Status::NoMemory),
     }
 }

@@ -1,15 +1,21 @@
 // What is written for a request, and for a refusal.
-ghost use Rattle.std.specs.Prelude.{◌≡◌, IfOk, string_bytes};
+ghost use Rattle.std.specs.Prelude.{◌≡◌, IfOk};
 ghost use Rattle.rack_types.specs.Request.{Parts};
-ghost use Rattle.puma_top.specs.Stack.{endpoint_of};
-ghost use Rattle.puma_top.specs.Reply.{endpoint_reply, text_reply, fault_reply, refusal_status, fault_status, fault_name, reason};
+ghost use Rattle.reply_framing.specs.Fault.{fault_reply};
+ghost use Rattle.puma_top.specs.StackLine.{endpoint_of};
+ghost use Rattle.puma_top.specs.Reply.{endpoint_reply, text_reply};
 
 use crate::stack::Stack;
+use circular_buffer::HeapCircularBuffer;
 use rack_types::{Fault, NoMemory};
+use reply_framing::put_fault;
 use std::alloc::Global;
 
 // The bytes of a reply beside its content type and its body, with the longest length.
 const HEAD_ROOM: usize = 96;
+
+// The bytes that a reply that names a fault may have.
+const FAULT_ROOM: usize = 256;
 
 /// The stack's reply to a request with this body, whole.
 pub(crate) fn endpoint_reply(
@@ -45,49 +51,7 @@ fn text_reply(alloc: Global, kind: &[u8], body: &[u8]) -> Result<Vec<u8>, NoMemo
 pub(crate) fn fault_reply(alloc: Global, fault: Fault) -> Result<Vec<u8>, NoMemory>
     ensures { IfOk result (λ reply. reply.items ≡ fault_reply fault) }
 {
-    let status = fault_status(fault);
-    let reason = reason(status);
-    let name = fault_name(alloc, fault)?;
-    let text = format!(in alloc;
-        "HTTP/1.1 {status} {reason}\r\nx-puma-fault: {name}\r\ncontent-length: 0\r\nconnection: close\r\n\r\n"
-    )?;
-    Ok(text.into_bytes())
-}
-
-// How a fault is spelled.
-fn fault_name(alloc: Global, fault: Fault) -> Result<String, NoMemory>
-    ensures { IfOk result (λ name. string_bytes name ≡ fault_name fault) }
-{
-    match fault {
-        Fault::F(row) => format!(in alloc; "F{row}"),
-        Fault::T1 => format!(in alloc; "T1"),
-    }
-}
-
-// The status of a fault: 400, 408, 413, 431 or 501.
-fn fault_status(fault: Fault) -> u16
-    ensures { result ≡ fault_status fault }
-{
-    match fault {
-        Fault::F(0 | 4 | 10) => 501,
-        Fault::F(1 | 2 | 16) => 431,
-        Fault::F(12 | 14) => 413,
-        Fault::F(_) => 400,
-        Fault::T1 => 408,
-    }
-}
-
-// The reason behind a status.
-fn reason(status: u16) -> &'static str
-    ensures { result.now ≡ reason status }
-{
-    match status {
-        200 => "OK",
-        400 => "Bad Request",
-        408 => "Request Timeout",
-        413 => "Content Too Large",
-        431 => "Request Header Fields Too Large",
-        501 => "Not Implemented",
-        _ => "",
-    }
+    let mut ring = HeapCircularBuffer::with_capacity(alloc, FAULT_ROOM)?;
+    put_fault(fault, &mut ring);
+    ring.to_vec(alloc)
 }

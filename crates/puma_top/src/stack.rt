@@ -1,7 +1,8 @@
 // The stack file, in the two forms that are built: `run text 200 TYPE BODY` and `run echo`.
 ghost use Rattle.std.specs.Prelude.{◌≡◌, ◌≢◌, ◌++◌, ◌∷◌, List, ℕ, MatchOption, IfSome, IfNone};
 ghost use Rattle.std.specs.List.{list_all};
-ghost use Rattle.puma_top.specs.Stack.{IsStack, IsNoStack, endpoint_of, SplitsAtSpace, DropsFeed, is_word, is_word_byte};
+ghost use Rattle.puma_top.specs.Stack.{IsStack, IsNoStack, is_word, is_word_byte};
+ghost use Rattle.puma_top.specs.StackLine.{endpoint_of, SplitsAtSpace, DropsFeed};
 
 /// What the stack answers to each request.
 #[derive(Clone, Copy)]

@@ -1,5 +1,5 @@
 use Rattle.std.proofs.Common.{codes, sym, ap, ◌∙◌}
-use Rattle.puma_top.specs.Stack.{endpoint_of}
+use Rattle.puma_top.specs.StackLine.{endpoint_of}
 use Rattle.puma_top.specs.Reply.{text_reply, endpoint_reply}
 use Rattle.puma_top.proofs.ReplyLemmas.{if_ok_then}
 use Rattle.puma_top.proofs.reply.endpoint_reply.Goals as goal

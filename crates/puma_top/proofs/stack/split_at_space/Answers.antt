@@ -1,7 +1,7 @@
 use Rattle.std.proofs.Common.{◌≡◌, ℕ, List, ◌∷◌, ◌++◌, length, take, sym, arith, rules, subst}
 use Rattle.std.proofs.lemmas.List.Sums.{position_or_len_is}
 use Rattle.std.proofs.lemmas.List.{take_rest}
-use Rattle.puma_top.specs.Stack.{is_space}
+use Rattle.puma_top.specs.StackLine.{is_space}
 use Rattle.puma_top.proofs.StackLemmas.{space_found, space_missing}
 use Rattle.puma_top.proofs.stack.split_at_space.Goals as goal
 
