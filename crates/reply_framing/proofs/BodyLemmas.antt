@@ -1,5 +1,5 @@
 -- The bytes of a body, piece by piece.
-use Rattle.std.proofs.Common.{◌≡◌, ℕ, Bool, true, false, List, [], ◌∷◌, ◌++◌, refl, ap, sym, ◌∙◌, append_assoc, Option, None, Some}
+use Rattle.std.proofs.Common.{◌≡◌, ℕ, Bool, true, false, List, [], ◌∷◌, ◌++◌, length, refl, ap, sym, ◌∙◌, append_assoc, Option, None, Some}
 use Rattle.std.specs.Prelude.{if◌then◌else◌, option_map}
 use Rattle.std.proofs.lemmas.List.{append-nil}
 use Rattle.std.specs.List.{flat_map}
@@ -28,44 +28,44 @@ rule_later : (b : Option Break) → rule_of (option_map a_piece_later b) ≡ rul
 rule_later None = refl
 rule_later (Some b) = refl
 
-break_more : (left : Option ℕ) (piece : List ℕ) (pieces : List (List ℕ)) (raises : Bool) → breaks_B1 left piece ≡ false
-    → body_break left (piece ∷ pieces) raises ≡ option_map a_piece_later (body_break (left_behind left piece) pieces raises)
+break_more : (left : Option ℕ) (piece : List ℕ) (pieces : List (List ℕ)) (raises : Bool) → breaks_B1 left (length piece) ≡ false
+    → body_break left (piece ∷ pieces) raises ≡ option_map a_piece_later (body_break (left_behind left (length piece)) pieces raises)
 unfolding body_break
 break_more left piece pieces raises fits =
-    ap (λ (b : Bool). if b then Some (record { place = 0; rule = body_rule 1 }) else option_map a_piece_later (body_break (left_behind left piece) pieces raises)) fits
+    ap (λ (b : Bool). if b then Some (record { place = 0; rule = body_rule 1 }) else option_map a_piece_later (body_break (left_behind left (length piece)) pieces raises)) fits
 
-break_stops : (left : Option ℕ) (piece : List ℕ) (pieces : List (List ℕ)) (raises : Bool) → breaks_B1 left piece ≡ true
+break_stops : (left : Option ℕ) (piece : List ℕ) (pieces : List (List ℕ)) (raises : Bool) → breaks_B1 left (length piece) ≡ true
     → body_break left (piece ∷ pieces) raises ≡ Some (record { place = 0; rule = body_rule 1 })
 unfolding body_break
 break_stops left piece pieces raises over =
-    ap (λ (b : Bool). if b then Some (record { place = 0; rule = body_rule 1 }) else option_map a_piece_later (body_break (left_behind left piece) pieces raises)) over
+    ap (λ (b : Bool). if b then Some (record { place = 0; rule = body_rule 1 }) else option_map a_piece_later (body_break (left_behind left (length piece)) pieces raises)) over
 
 break_end : (left : Option ℕ) (raises : Bool) → body_break left [] raises ≡ option_map (λ r. record { place = 0; rule = r }) (end_rule left raises)
 unfolding body_break
 break_end left raises = refl
 
 -- a piece that the promise holds
-pub body_more : (form : Form) (left : Option ℕ) (piece : List ℕ) (pieces : List (List ℕ)) (raises : Bool) → ¬ (form ≡ Bare) → breaks_B1 left piece ≡ false
-    → body_bytes form left (piece ∷ pieces) raises ≡ wire form piece ++ body_bytes form (left_behind left piece) pieces raises
+pub body_more : (form : Form) (left : Option ℕ) (piece : List ℕ) (pieces : List (List ℕ)) (raises : Bool) → ¬ (form ≡ Bare) → breaks_B1 left (length piece) ≡ false
+    → body_bytes form left (piece ∷ pieces) raises ≡ wire form piece ++ body_bytes form (left_behind left (length piece)) pieces raises
 body_more form left piece pieces raises sent fits =
     ap (λ b. bytes_until b form (piece ∷ pieces)) (break_sent form left (piece ∷ pieces) raises sent ∙ break_more left piece pieces raises fits)
-    ∙ bytes_later (body_break (left_behind left piece) pieces raises) form piece pieces
-    ∙ ap (λ b. wire form piece ++ bytes_until b form pieces) (sym (break_sent form (left_behind left piece) pieces raises sent))
+    ∙ bytes_later (body_break (left_behind left (length piece)) pieces raises) form piece pieces
+    ∙ ap (λ b. wire form piece ++ bytes_until b form pieces) (sym (break_sent form (left_behind left (length piece)) pieces raises sent))
 
-pub rule_more : (form : Form) (left : Option ℕ) (piece : List ℕ) (pieces : List (List ℕ)) (raises : Bool) → ¬ (form ≡ Bare) → breaks_B1 left piece ≡ false
-    → rule_in form left (piece ∷ pieces) raises ≡ rule_in form (left_behind left piece) pieces raises
+pub rule_more : (form : Form) (left : Option ℕ) (piece : List ℕ) (pieces : List (List ℕ)) (raises : Bool) → ¬ (form ≡ Bare) → breaks_B1 left (length piece) ≡ false
+    → rule_in form left (piece ∷ pieces) raises ≡ rule_in form (left_behind left (length piece)) pieces raises
 rule_more form left piece pieces raises sent fits =
     ap rule_of (break_sent form left (piece ∷ pieces) raises sent ∙ break_more left piece pieces raises fits)
-    ∙ rule_later (body_break (left_behind left piece) pieces raises)
-    ∙ ap rule_of (sym (break_sent form (left_behind left piece) pieces raises sent))
+    ∙ rule_later (body_break (left_behind left (length piece)) pieces raises)
+    ∙ ap rule_of (sym (break_sent form (left_behind left (length piece)) pieces raises sent))
 
 -- a piece that passes it
-pub body_stops : (form : Form) (left : Option ℕ) (piece : List ℕ) (pieces : List (List ℕ)) (raises : Bool) → ¬ (form ≡ Bare) → breaks_B1 left piece ≡ true
+pub body_stops : (form : Form) (left : Option ℕ) (piece : List ℕ) (pieces : List (List ℕ)) (raises : Bool) → ¬ (form ≡ Bare) → breaks_B1 left (length piece) ≡ true
     → body_bytes form left (piece ∷ pieces) raises ≡ []
 body_stops form left piece pieces raises sent over =
     ap (λ b. bytes_until b form (piece ∷ pieces)) (break_sent form left (piece ∷ pieces) raises sent ∙ break_stops left piece pieces raises over)
 
-pub rule_stops : (form : Form) (left : Option ℕ) (piece : List ℕ) (pieces : List (List ℕ)) (raises : Bool) → ¬ (form ≡ Bare) → breaks_B1 left piece ≡ true
+pub rule_stops : (form : Form) (left : Option ℕ) (piece : List ℕ) (pieces : List (List ℕ)) (raises : Bool) → ¬ (form ≡ Bare) → breaks_B1 left (length piece) ≡ true
     → rule_in form left (piece ∷ pieces) raises ≡ Some (body_rule 1)
 rule_stops form left piece pieces raises sent over =
     ap rule_of (break_sent form left (piece ∷ pieces) raises sent ∙ break_stops left piece pieces raises over)

@@ -13,14 +13,15 @@ use Rattle.reply_framing.specs.declared.pull.Pull.{Pull}
 use Rattle.reply_framing.specs.declared.pull.Stage.TheVariants.{Ended, Broken}
 use Rattle.reply_framing.specs.Body.{wire, body_bytes, rule_in}
 use Rattle.reply_framing.specs.Coming.{Rest, Appends}
+use Rattle.reply_framing.specs.Fills.{Fills}
 use Rattle.reply_framing.specs.Framed.{pending, IsAllOrFull}
-use Rattle.reply_framing.specs.Pull.{Fills, TakesOne, rest_of, lent, content_of, later_by, rule_by}
+use Rattle.reply_framing.specs.Pull.{TakesOne, rest_of, lent, content_of, later_by, rule_by}
 use Rattle.reply_framing.specs.Pull as pull
-use Rattle.reply_framing.specs.PullOrder.{Pulls, IsLate, IsRestOf, left_behind_all, later}
+use Rattle.reply_framing.specs.PullOrder.{Pulls, IsLate, IsRestOf, later}
 use Rattle.reply_framing.proofs.AppendLemmas.{appends_none, appends_then}
 
 -- what is left of a promise behind no piece, and behind one piece more
-left_none : (left : Option ℕ) → left ≡ left_behind_all left []
+left_none : (left : Option ℕ) → left ≡ left_behind left 0
 left_none None = refl
 left_none (Some p) = ap Some (omega arith)
 
@@ -28,7 +29,7 @@ sum_snoc : (taken : List (List ℕ)) (piece : List ℕ) → length (concat (take
 sum_snoc [] piece = omega (arith, ap length (append-nil piece))
 sum_snoc (x ∷ xs) piece = omega (arith, length-append x (concat (xs ++ piece ∷ [])), length-append x (concat xs), sum_snoc xs piece)
 
-left_snoc : (left : Option ℕ) (taken : List (List ℕ)) (piece : List ℕ) → left_behind_all left (taken ++ piece ∷ []) ≡ left_behind (left_behind_all left taken) piece
+left_snoc : (left : Option ℕ) (taken : List (List ℕ)) (piece : List ℕ) → left_behind left (length (concat (taken ++ piece ∷ []))) ≡ left_behind (left_behind left (length (concat taken))) (length piece)
 left_snoc None taken piece = refl
 left_snoc (Some p) taken piece = ap Some (omega (arith, sum_snoc taken piece))
 
@@ -63,7 +64,7 @@ pulls_take o a n p t =
       | inr one ↦ record {
         taken = p.taken ++ one.0 ∷ [];
         given = p.given ∙ ap (λ w. p.taken ++ w) one.1 ∙ sym (append_assoc p.taken (one.0 ∷ []) n.waiting);
-        left = one.2 ∙ ap (λ w. left_behind w one.0) p.left ∙ sym (left_snoc o.left p.taken one.0);
+        left = one.2 ∙ ap (λ w. left_behind w (length one.0)) p.left ∙ sym (left_snoc o.left p.taken one.0);
         late = late_snoc p.taken one.0 n one.3;
       }
     ]

@@ -40,15 +40,15 @@ pub if_false : {X : Type 0} (over : Bool) (x y z : X) → over ≡ false → z �
 if_false over x y z fits e = e ∙ ap (λ (b : Bool). if b then x else y) fits
 
 -- at a promise that a piece passes nothing is left
-nothing_left : (left : Option ℕ) (piece : List ℕ) → breaks_B1 left piece ≡ true → Some 0 ≡ left_behind left piece
-nothing_left None piece over = cc
-nothing_left (Some p) piece over = let short : p < length piece = ltb-true p (length piece) over in ap Some (omega arith)
+nothing_left : (left : Option ℕ) (n : ℕ) → breaks_B1 left n ≡ true → Some 0 ≡ left_behind left n
+nothing_left None n over = cc
+nothing_left (Some p) n over = let short : p < n = ltb-true p n over in ap Some (omega arith)
 
 module _ {B : Type 0} (content : B → Content) (taken : B → List ℕ) where
   -- a piece that is sent
   pub takes_piece : (framed f : Framed) (form : Form) (left left' : Option ℕ) (stage : Stage) (body body' : Option B) → stage ≡ Pulling → ¬ (form ≡ Bare)
       → IsClear framed → TakesPiece (content_of content taken body) (lent content taken body') (content_of content taken body')
-      → breaks_B1 left (lent content taken body') ≡ false → left' ≡ left_behind left (lent content taken body')
+      → breaks_B1 left (length (lent content taken body')) ≡ false → left' ≡ left_behind left (length (lent content taken body'))
       → pending f (lent content taken body') ≡ wire form (lent content taken body')
       → TakesOne (rest_of content taken (record { framed = framed; form = form; watch = left; stage = stage; body = body }))
       (rest_of content taken (record { framed = f; form = form; watch = left'; stage = stage; body = body' }))
@@ -58,16 +58,16 @@ module _ {B : Type 0} (content : B → Content) (taken : B → List ℕ) where
       let piece = lent content taken body' in
       let old = content_of content taken body in
       let new = content_of content taken body' in
-      let old_bytes : pending framed (lent content taken body) ++ body_bytes form left old.pieces old.raises ≡ wire form piece ++ body_bytes form (left_behind left piece) new.pieces old.raises =
+      let old_bytes : pending framed (lent content taken body) ++ body_bytes form left old.pieces old.raises ≡ wire form piece ++ body_bytes form (left_behind left (length piece)) new.pieces old.raises =
       ap (λ w. w ++ body_bytes form left old.pieces old.raises) (clear_pending framed (lent content taken body) clear)
       ∙ ap (λ w. body_bytes form left w old.raises) t.pieces ∙ body_more form left piece new.pieces old.raises sent fits in
-      let new_bytes : pending f piece ++ body_bytes form left' new.pieces new.raises ≡ wire form piece ++ body_bytes form (left_behind left piece) new.pieces old.raises =
+      let new_bytes : pending f piece ++ body_bytes form left' new.pieces new.raises ≡ wire form piece ++ body_bytes form (left_behind left (length piece)) new.pieces old.raises =
       ap (λ w. w ++ body_bytes form left' new.pieces new.raises) bytes_are
       ∙ ap (λ k. wire form piece ++ body_bytes form k new.pieces new.raises) left_is
-      ∙ ap (λ k. wire form piece ++ body_bytes form (left_behind left piece) new.pieces k) t.raises in rw pulling (
+      ∙ ap (λ k. wire form piece ++ body_bytes form (left_behind left (length piece)) new.pieces k) t.raises in rw pulling (
         record {
           bytes = new_bytes ∙ sym old_bytes;
-          rule = ap (λ k. rule_in form k new.pieces new.raises) left_is ∙ ap (rule_in form (left_behind left piece) new.pieces) t.raises
+          rule = ap (λ k. rule_in form k new.pieces new.raises) left_is ∙ ap (rule_in form (left_behind left (length piece)) new.pieces) t.raises
               ∙ sym (ap (λ w. rule_in form left w old.raises) t.pieces ∙ rule_more form left piece new.pieces old.raises sent fits);
           sure = t.sure;
           form = refl;
@@ -80,7 +80,7 @@ module _ {B : Type 0} (content : B → Content) (taken : B → List ℕ) where
   -- a piece that passes the promise
   pub stops_at_piece : (framed : Framed) (form : Form) (left : Option ℕ) (stage : Stage) (rule : BodyRule) (body body' : Option B) → stage ≡ Pulling → ¬ (form ≡ Bare)
       → IsClear framed → TakesPiece (content_of content taken body) (lent content taken body') (content_of content taken body')
-      → breaks_B1 left (lent content taken body') ≡ true → rule ≡ body_rule 1
+      → breaks_B1 left (length (lent content taken body')) ≡ true → rule ≡ body_rule 1
       → TakesOne (rest_of content taken (record { framed = framed; form = form; watch = left; stage = stage; body = body }))
       (rest_of content taken (record { framed = framed; form = form; watch = Some 0; stage = Broken rule; body = body' }))
       × (asks_left content taken (record { framed = framed; form = form; watch = Some 0; stage = Broken rule; body = body' })
@@ -100,7 +100,7 @@ module _ {B : Type 0} (content : B → Content) (taken : B → List ℕ) where
           sure = t.sure;
           form = refl;
           raises = t.raises;
-          next = inr (piece, t.pieces, nothing_left left piece over, (whole, sym (ap (λ w. whole ++ w) new_bytes ∙ append-nil whole)));
+          next = inr (piece, t.pieces, nothing_left left (length piece) over, (whole, sym (ap (λ w. whole ++ w) new_bytes ∙ append-nil whole)));
         },
         omega (arith, ap length t.pieces),
       )
@@ -118,14 +118,14 @@ module _ {B : Type 0} (content : B → Content) (taken : B → List ℕ) where
   end_steps None = refl
   end_steps (Some rule) = refl
 
-  pub takes_end : (framed f : Framed) (form : Form) (left : Option ℕ) (stage stage' : Stage) (raised : Bool) (body body' : Option B) → stage ≡ Pulling → ¬ (form ≡ Bare)
+  takes_end_at : (framed f : Framed) (form : Form) (left : Option ℕ) (stage stage' : Stage) (raised : Bool) (body body' : Option B) → stage ≡ Pulling → ¬ (form ≡ Bare)
       → IsClear framed → Ends raised (content_of content taken body) (content_of content taken body')
       → ((piece : List ℕ) → pending f piece ≡ last_by (end_rule left raised) form) → stage' ≡ stage_of (end_rule left raised)
       → TakesOne (rest_of content taken (record { framed = framed; form = form; watch = left; stage = stage; body = body }))
       (rest_of content taken (record { framed = f; form = form; watch = left; stage = stage'; body = body' }))
       × (asks_left content taken (record { framed = f; form = form; watch = left; stage = stage'; body = body' })
       < asks_left content taken (record { framed = framed; form = form; watch = left; stage = stage; body = body }))
-  takes_end framed f form left stage stage' raised body body' pulling sent clear e bytes_are stage_is =
+  takes_end_at framed f form left stage stage' raised body body' pulling sent clear e bytes_are stage_is =
       let old = content_of content taken body in
       let new = content_of content taken body' in
       let rule = end_rule left raised in
@@ -146,3 +146,14 @@ module _ {B : Type 0} (content : B → Content) (taken : B → List ℕ) where
         },
         omega (arith, end_steps rule, ap (λ (c : Content). length c.pieces) e.same),
       )
+
+  pub takes_end : (framed f : Framed) (form form' : Form) (left left' : Option ℕ) (stage stage' : Stage) (raised : Bool) (body body' body'' : Option B) → stage ≡ Pulling → ¬ (form ≡ Bare)
+      → IsClear framed → Ends raised (content_of content taken body) (content_of content taken body')
+      → form' ≡ form → left' ≡ left → body'' ≡ body'
+      → ((piece : List ℕ) → pending f piece ≡ last_by (end_rule left raised) form) → stage' ≡ stage_of (end_rule left raised)
+      → TakesOne (rest_of content taken (record { framed = framed; form = form; watch = left; stage = stage; body = body }))
+      (rest_of content taken (record { framed = f; form = form'; watch = left'; stage = stage'; body = body'' }))
+      × (asks_left content taken (record { framed = f; form = form'; watch = left'; stage = stage'; body = body'' })
+      < asks_left content taken (record { framed = framed; form = form; watch = left; stage = stage; body = body }))
+  takes_end framed f form form' left left' stage stage' raised body body' body'' pulling sent clear e form_is left_is body_is bytes_are stage_is =
+      rw (form_is, left_is, body_is) (takes_end_at framed f form left stage stage' raised body body' pulling sent clear e bytes_are stage_is)

@@ -1,12 +1,10 @@
 -- What the pulling part of a framer holds. This serves inner contracts alone.
 use Rattle.std.specs.Prelude.{◌≡◌, ◌<◌, ◌≤◌, ◌+◌, ℕ, Bool, true, false, List, [], ◌∷◌, ◌++◌, length, Option, None, Some, Result, Ok, Err, ◌⊎◌}
 use Rattle.std.specs.declared.alloc.AllocError.{AllocError}
-use Rattle.circular_buffer.specs.Buffer.{Buffer}
 use Rattle.rack_types.specs.declared.body.Kind.TheVariants.{Enumerable}
 use Rattle.rack_types.specs.declared.rules.BodyRule.{BodyRule}
 use Rattle.rack_types.specs.Body.{Content, TakesPiece, Ends}
 use Rattle.rack_types.specs.BodyRules.{left_behind, end_rule}
-use Rattle.reply_framing.specs.declared.types.Filled.{Filled}
 use Rattle.reply_framing.specs.declared.types.Form.{Form}
 use Rattle.reply_framing.specs.declared.types.Form.TheVariants.{Bare}
 use Rattle.reply_framing.specs.declared.pull.Asked.{Asked}
@@ -15,22 +13,10 @@ use Rattle.reply_framing.specs.declared.pull.Pull.{Pull}
 use Rattle.reply_framing.specs.declared.pull.Stage.{Stage}
 use Rattle.reply_framing.specs.declared.pull.Stage.TheVariants.{Pulling, Ended, Broken}
 use Rattle.reply_framing.specs.Body.{body_bytes, rule_in, wire, last_bytes}
-use Rattle.reply_framing.specs.Coming.{Rest, Appends, IsFilled}
+use Rattle.reply_framing.specs.Coming.{Rest}
 use Rattle.reply_framing.specs.Framed.{pending}
-use Rattle.reply_framing.specs.PullOrder.{Pulls, IsRestOf}
+use Rattle.reply_framing.specs.PullOrder.{IsRestOf}
 use Rattle.reply_framing.specs.PullOrder as order
-
--- one fill: what it appended, what it answers, and what stays
-pub record Fills (old : Rest) (result : Result Filled AllocError) (new : Rest) (before after : Buffer ℕ) : Type 0 where
-  pub appends : Appends old.bytes new.bytes before after
-  pub answer : IsFilled result new after
-  pub rule : new.rule ≡ old.rule
-  pub sure : new.sure ≡ old.sure
-  pub form : new.form ≡ old.form
-  pub raises : new.raises ≡ old.raises
-  pub pulls : Pulls old new
-  -- a body that isn't sent is never asked
-  pub bare : old.form ≡ Bare → new.waiting ≡ old.waiting
 
 -- one ask of a body, with the piece that it lends behind it
 abbrev pub AsksTo : Result Asked AllocError → Content → List ℕ → Content → Type 0
@@ -42,7 +28,7 @@ AsksTo (Err e) old piece new = (old.sure ≡ false) × (new ≡ old)
 abbrev pub TakesNext : Rest → Rest → Type 0
 TakesNext old new =
     ((new.waiting ≡ old.waiting) × (new.left ≡ old.left))
-    ⊎ ((piece : List ℕ) × (old.waiting ≡ piece ∷ new.waiting) × (new.left ≡ left_behind old.left piece)
+    ⊎ ((piece : List ℕ) × (old.waiting ≡ piece ∷ new.waiting) × (new.left ≡ left_behind old.left (length piece))
     × IsRestOf new.bytes (wire new.form piece ++ order.later new))
 
 -- what comes stays the same, and one piece is taken at most

@@ -1,8 +1,8 @@
 // How a reply tells the length of its body, and what becomes of the connection.
-ghost use Rattle.std.specs.Prelude.{◌≡◌};
-ghost use Rattle.reply_framing.specs.Form.{promise, form_of, wants_close, head_after, connection_line};
-ghost use Rattle.rack_types.specs.AnswerRules.{is_bare};
-ghost use Rattle.rack_types.specs.Headers.{HeaderList};
+ghost use Rattle.std.specs.Prelude.{◌≡◌, ◌<◌, length, Some};
+ghost use Rattle.reply_framing.specs.Form.{promise, form_of, have_close, wants_close, head_after, connection_line};
+ghost use Rattle.rack_types.specs.AnswerRules.{is_bare, one_length};
+ghost use Rattle.rack_types.specs.Headers.{HeaderList, values_at};
 
 use crate::types::{After, Ask, Form};
 use rack_text::{list_has, read_decimal};
@@ -13,12 +13,24 @@ use rack_types::{Headers, Version};
 pub(crate) fn promise(headers: &Headers) -> Option<u64>
     ensures { result ≡ promise headers.now }
 {
-    let place = headers.get(b"content-length")?;
-    if headers.value_count(place) != 1 {
+    match headers.get(b"content-length") {
+        Some(place) => one_length(headers, place),
+        None => None,
+    }
+}
+
+// The one number of the header at this place.
+fn one_length(headers: &Headers, i: usize) -> Option<u64>
+    requires { i < length headers.now }
+    ensures { result ≡ one_length (values_at i headers.now) }
+{
+    if headers.value_count(i) != 1 {
         return None;
     }
-    let number = read_decimal(headers.value(place, 0))?;
-    u64::try_from(number).ok()
+    match read_decimal(headers.value(i, 0)) {
+        Some(n) if n <= u64::MAX as u128 => Some(n as u64),
+        _ => None,
+    }
 }
 
 // A status whose reply has no body: 100 to 199, 204 and 304.
@@ -47,11 +59,19 @@ pub(crate) fn form_of(ask: Ask, status: u32, promised: Option<u64>, known: Optio
 fn wants_close(headers: &Headers) -> bool
     ensures { result ≡ wants_close headers.now }
 {
-    let Some(place) = headers.get(b"connection") else {
-        return false;
-    };
-    for j in 0..headers.value_count(place) {
-        if list_has(headers.value(place, j), b"close") {
+    match headers.get(b"connection") {
+        Some(place) => have_close(headers, place),
+        None => false,
+    }
+}
+
+// The same of the values at this place.
+fn have_close(headers: &Headers, i: usize) -> bool
+    requires { i < length headers.now }
+    ensures { result ≡ have_close (Some (values_at i headers.now)) }
+{
+    for j in 0..headers.value_count(i) {
+        if list_has(headers.value(i, j), b"close") {
             return true;
         }
     }

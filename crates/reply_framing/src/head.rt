@@ -1,10 +1,10 @@
 // The head of a reply, written in one pass.
-ghost use Rattle.std.specs.Prelude.{◌≡◌, ◌≤◌, ◌<◌, ◌++◌, length, vec_capacity, slice_get, nat_eq, Some, IfOk, OnOk, List, ℕ, codes, decimal};
+ghost use Rattle.std.specs.Prelude.{◌≡◌, ◌≤◌, ◌<◌, ◌++◌, true, codes, decimal, length, vec_capacity, slice_get, Some, IfOk, OnOk};
 ghost use Rattle.std.specs.List.{flat_map, starts_with};
 ghost use Rattle.rack_types.specs.Headers.{header_names, values_at};
 ghost use Rattle.reply_framing.specs.Form.{length_line, connection_line};
 ghost use Rattle.reply_framing.specs.Head.{status_line, header_lines, header_line, value_line, is_left_out, crlf};
-ghost use Rattle.reply_framing.specs.Reply.{broken_headers};
+ghost use Rattle.reply_framing.specs.Reply.{head_text};
 
 use crate::form::connection_line;
 use crate::reason::reason;
@@ -17,6 +17,7 @@ use std::alloc::Global;
 const ROOM: usize = 512;
 
 // The lines of a head behind those of its headers.
+#[derive(Drop)]
 pub(crate) struct Lines {
     pub(crate) form: Form,
     pub(crate) known: Option<u64>,
@@ -24,23 +25,37 @@ pub(crate) struct Lines {
     pub(crate) version: Version,
 }
 
-// The head of a reply. A partial hijack, and it alone, has `connection` among its headers.
+// The head of a reply with a body.
 pub(crate) fn write_head(
     alloc: Global,
     status: u32,
     headers: &Headers,
-    part: bool,
     lines: &Lines,
 ) -> Result<Vec<u8>, NoMemory>
-    ensures text { IfOk result (λ head. head.items ≡ status_line status ++ header_lines part headers.now
-        ++ length_line lines.now.form lines.now.known ++ connection_line lines.now.after lines.now.version ++ crlf) }
+    ensures text { IfOk result (λ head. head.items ≡ head_text status headers.now lines.now.form lines.now.known lines.now.after lines.now.version) }
     ensures room { IfOk result (λ head. 80 ≤ vec_capacity head) }
 {
     let mut head = Vec::with_capacity(alloc, ROOM)?;
     write_status(status, &mut head)?;
-    write_headers(headers, part, &mut head)?;
+    write_headers(headers, false, &mut head)?;
     write_length(lines.form, lines.known, &mut head)?;
     head.extend_from_slice(connection_line(lines.after, lines.version))?;
+    head.extend_from_slice(b"\r\n")?;
+    Ok(head)
+}
+
+// The head before a stream that a hijacker goes on with.
+pub(crate) fn write_partial_head(
+    alloc: Global,
+    status: u32,
+    headers: &Headers,
+) -> Result<Vec<u8>, NoMemory>
+    ensures text { IfOk result (λ head. head.items ≡ status_line status ++ header_lines true headers.now ++ crlf) }
+    ensures room { IfOk result (λ head. 80 ≤ vec_capacity head) }
+{
+    let mut head = Vec::with_capacity(alloc, ROOM)?;
+    write_status(status, &mut head)?;
+    write_headers(headers, true, &mut head)?;
     head.extend_from_slice(b"\r\n")?;
     Ok(head)
 }
@@ -52,8 +67,8 @@ pub(crate) fn write_broken_head(
     after: After,
     version: Version,
 ) -> Result<Vec<u8>, NoMemory>
-    ensures text { IfOk result (λ head. head.items ≡ status_line 500 ++ header_lines false (broken_headers rule)
-        ++ connection_line after version ++ crlf) }
+    ensures text { IfOk result (λ head. head.items ≡ status_line 500 ++ codes "x-puma-fault: L" ++ decimal rule.0
+        ++ codes "\r\ncontent-length: 0\r\n" ++ connection_line after version ++ crlf) }
     ensures room { IfOk result (λ head. 80 ≤ vec_capacity head) }
 {
     let mut head = Vec::with_capacity(alloc, ROOM)?;
@@ -84,26 +99,50 @@ fn write_headers(headers: &Headers, part: bool, head: &mut Vec<u8>) -> Result<()
     ensures room { OnOk result (vec_capacity head.old ≤ vec_capacity head.new) }
 {
     for i in 0..headers.len() {
-        let name = headers.name(i);
-        if !is_left_out(part, name) {
-            write_values(headers, i, name, head)?;
-        }
+        write_header(headers, i, headers.name(i), part, head)?;
     }
     Ok(())
 }
 
-// The lines of one header, one for each value.
+// The lines of the header at this place, or nothing where it is left out.
+fn write_header(
+    headers: &Headers,
+    i: usize,
+    name: &[u8],
+    part: bool,
+    head: &mut Vec<u8>,
+) -> Result<(), NoMemory>
+    requires { i < length headers.now }
+    ensures text { OnOk result (head.new.items ≡ head.old.items ++ header_line part (name.now, values_at i headers.now)) }
+    ensures room { OnOk result (vec_capacity head.old ≤ vec_capacity head.new) }
+{
+    if is_left_out(part, name) {
+        return Ok(());
+    }
+    write_values(headers, i, name, head)
+}
+
+// One line for each value of the header at this place.
 fn write_values(headers: &Headers, i: usize, name: &[u8], head: &mut Vec<u8>) -> Result<(), NoMemory>
     requires { i < length headers.now }
     ensures text { OnOk result (head.new.items ≡ head.old.items ++ flat_map (value_line name.now) (values_at i headers.now)) }
     ensures room { OnOk result (vec_capacity head.old ≤ vec_capacity head.new) }
 {
     for j in 0..headers.value_count(i) {
-        head.extend_from_slice(name)?;
-        head.extend_from_slice(b": ")?;
-        head.extend_from_slice(headers.value(i, j))?;
-        head.extend_from_slice(b"\r\n")?;
+        write_value(name, headers.value(i, j), head)?;
     }
+    Ok(())
+}
+
+// The line of one value.
+fn write_value(name: &[u8], value: &[u8], head: &mut Vec<u8>) -> Result<(), NoMemory>
+    ensures text { OnOk result (head.new.items ≡ head.old.items ++ value_line name.now value.now) }
+    ensures room { OnOk result (vec_capacity head.old ≤ vec_capacity head.new) }
+{
+    head.extend_from_slice(name)?;
+    head.extend_from_slice(b": ")?;
+    head.extend_from_slice(value)?;
+    head.extend_from_slice(b"\r\n")?;
     Ok(())
 }
 

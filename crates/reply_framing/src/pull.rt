@@ -5,7 +5,8 @@ ghost use Rattle.reply_framing.specs.declared.types.Form.TheVariants as form;
 ghost use Rattle.reply_framing.specs.Body.{body_bytes, rule_in};
 ghost use Rattle.reply_framing.specs.Coming.{Appends};
 ghost use Rattle.reply_framing.specs.Framed.{pending, IsAllOrFull, IsClear};
-ghost use Rattle.reply_framing.specs.Pull.{Fills, IsIn, EndsSo, Takes, AsksTo, rest_of, lent, content_of};
+ghost use Rattle.reply_framing.specs.Fills.{Fills};
+ghost use Rattle.reply_framing.specs.Pull.{IsIn, EndsSo, Takes, AsksTo, rest_of, lent, content_of};
 ghost use Rattle.reply_framing.specs.PullOrder.{AskedNothing};
 
 use crate::framed::Framed;

@@ -1,10 +1,12 @@
 // The reasons behind the status codes.
-ghost use Rattle.std.specs.Prelude.{◌≡◌};
+ghost use Rattle.std.specs.Prelude.{◌≡◌, ◌≤◌, length};
 ghost use Rattle.reply_framing.specs.Reason.{reason};
 
 // The reason behind a status, empty for a status that has none.
+#[tactic(auto, unfolding(crate::specs::Reason::reason))]
 pub(crate) fn reason(status: u32) -> &'static str
-    ensures { result.now ≡ reason status }
+    ensures text { result.now ≡ reason status }
+    ensures short { length result.now ≤ 31 }
 {
     match status {
         100 => "Continue",

@@ -1,5 +1,5 @@
 // The rules of a body, piece by piece.
-ghost use Rattle.std.specs.Prelude.{◌≡◌, if◌then◌else◌, Some, None, length, ℕ, List};
+ghost use Rattle.std.specs.Prelude.{◌≡◌, if◌then◌else◌, Some, None};
 ghost use Rattle.rack_types.specs.BodyRules.{breaks_B1, left_behind, end_rule, body_rule};
 
 use rack_types::BodyRule;
@@ -29,8 +29,8 @@ impl BodyWatch {
 
     /// The rule that a piece of so many bytes breaks. It is counted where it breaks none.
     pub(crate) fn piece(&mut self, len: u64) -> Option<BodyRule>
-        ensures rule { (piece : List ℕ) → length piece ≡ len → result ≡ (if breaks_B1 self.old piece then Some (body_rule 1) else None) }
-        ensures left { (piece : List ℕ) → length piece ≡ len → self.new ≡ (if breaks_B1 self.old piece then self.old else left_behind self.old piece) }
+        ensures rule { result ≡ (if breaks_B1 self.old len then Some (body_rule 1) else None) }
+        ensures left { self.new ≡ (if breaks_B1 self.old len then self.old else left_behind self.old len) }
     {
         let Some(left) = self.left else { return None };
         if left < len {
@@ -42,7 +42,7 @@ impl BodyWatch {
 
     /// The rule that the body breaks at its end.
     pub(crate) fn end(&self, raised: bool) -> Option<BodyRule>
-        ensures { result ≡ end_rule self.now raised }
+        ensures rule { result ≡ end_rule self.now raised }
     {
         if raised {
             return Some(BodyRule(3));
