@@ -1,4 +1,3 @@
 mod CabinetLemmas
 mod SupplyLemmas
-mod FeedLemmas
 mod LinkLemmas
