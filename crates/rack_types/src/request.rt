@@ -234,3 +234,11 @@ fn text_of(head: &[u8], start: usize) -> &[u8]
 {
     &head[start..]
 }
+
+// A request goes into a connection, which may go from thread to thread. That it is Send is proved here,
+// where this call is.
+fn request_is_send() {
+    is_send::<Request>()
+}
+
+fn is_send<T: Send>() {}
