@@ -1,6 +1,6 @@
 -- A list that is mapped from its front, one after the other.
 use Rattle.std.proofs.Common.{◌≡◌, ℕ, zero, suc, ◌+◌, ◌<◌, ◌≤◌, List, [], ◌∷◌, ◌++◌, drop, get_or, length, map, set, take, refl, sym, ap, ◌∙◌, arith, codes}
-use Rattle.std.proofs.lemmas.List.{append-nil, map-append, take_all}
+use Rattle.std.proofs.lemmas.List.{length-map, take-append-le, take_all}
 use Rattle.rack_env.specs.Fields.{http_name, name_byte}
 
 -- the first i are mapped
@@ -31,6 +31,10 @@ all_mapped xs ys i so_far past = so_far ∙ all ys i past
     all (z ∷ zs) zero past = absurd (omega (arith, past))
     all (z ∷ zs) (suc k) past = ap (λ (ws : List ℕ). name_byte z ∷ ws) (all zs k (omega (arith, past)))
 
--- the name of a field is raised with what stands before it
-pub http_name_raised : (field : List ℕ) → map name_byte (codes "HTTP_" ++ field) ≡ http_name field
-http_name_raised field = refl
+-- what stands in a list of which the first len are read
+pub written : (items new rest field : List ℕ) (len : ℕ) → len ≡ length items → new ≡ map name_byte items → items ≡ codes "HTTP_" ++ field → take len (new ++ rest) ≡ http_name field
+written items new rest field len long is are =
+    let same : length new ≡ length items = ap length is ∙ length-map items name_byte in
+    take-append-le len new rest (omega (arith, long, same))
+    ∙ take_all len new (omega (arith, long, same))
+    ∙ is ∙ ap (map name_byte) are

@@ -2,7 +2,7 @@ use Rattle.std.proofs.Common.{◌≤◌, sym, ap, ◌∙◌, arith, length, refl
 use Rattle.std.proofs.lemmas.List.{take_all}
 use Rattle.rack_types.specs.Env.{with_pairs}
 use Rattle.rack_types.specs.Fields.{values_of}
-use Rattle.rack_types.proofs.FieldLemmas.{IsFieldAt, values_elsewhere}
+use Rattle.rack_types.proofs.CallerLemmas.{IsFieldAt, values_elsewhere}
 use Rattle.rack_env.specs.Placing.{join_values}
 use Rattle.rack_env.proofs.FieldLemmas.{value_put}
 use Rattle.rack_env.proofs.JoinLemmas.{join_values-new}
