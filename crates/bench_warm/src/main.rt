@@ -1,16 +1,20 @@
-// Turns requests over and over, over kept objects, so that `bench/figures.py` can count what one
-// costs warm: the words are what a turn makes and how many turns, standard input has the requests.
+// Turns requests over and over, on kept objects, so that `bench/figures.py` can count what one of them
+// costs warm. The words say what is made of a request, and how many turns there are; a turn takes in all
+// requests of standard input.
 #![tactic(auto)]
 
 use message_framing::{Feed, Intake};
 use rack_env::{env_of, refill};
-use rack_types::{Bytes, Env, Input, Limits, Local, NoMemory, Peer, Request};
+use rack_types::{Bytes, Env, Input, Limits, Local, NoMemory, Peer};
 use std::alloc::Global;
 use std::io::Read;
 use std::process::ExitCode;
 use std::{env, io};
 
-/// What a turn makes of each request.
+// How many requests standard input may have.
+const REQUESTS: usize = 16;
+
+/// What is made of a request.
 #[derive(Clone, Copy)]
 enum Makes {
     /// Nothing: it is taken in alone.
@@ -31,7 +35,7 @@ struct Kept {
 }
 
 fn main(rt: HostRuntime) -> ExitCode {
-    let Ok((makes, turns)) = words(&rt) else {
+    let Ok(Some((makes, turns))) = words(&rt) else {
         return ExitCode::from(2);
     };
     let mut text = Vec::new(rt.alloc());
@@ -50,25 +54,37 @@ fn main(rt: HostRuntime) -> ExitCode {
     ExitCode::from(0)
 }
 
-fn words<R: std::rt::Env + AllocGlobal>(rt: &R) -> io::Result<(Makes, u32)> {
+/// What is made, and how many turns there are.
+fn words<R: std::rt::Env + AllocGlobal>(rt: &R) -> io::Result<Option<(Makes, u32)>> {
     let mut words = Vec::new(rt.alloc());
     for word in env::args(rt)?.skip(1) {
         words.push(word)?;
     }
-    let makes = match words[0].as_str() {
+    let (Some(makes), Some(turns)) = (words.get(0), words.get(1)) else {
+        return Ok(None);
+    };
+    let makes = match makes.as_str() {
         "intake" => Makes::Nothing,
         "new" => Makes::New,
-        _ => Makes::Kept,
+        "kept" => Makes::Kept,
+        _ => return Ok(None),
     };
-    Ok((makes, words[1].parse().unwrap_or(0)))
+    match turns.parse() {
+        Ok(turns) => Ok(Some((makes, turns))),
+        Err(_) => Ok(None),
+    }
 }
 
 fn begin(alloc: Global) -> Result<Option<Kept>, NoMemory> {
-    let (Some(peer), Some(name)) = (Peer::new(b"127.0.0.1"), Peer::new(b"localhost")) else {
+    let Some(peer) = Peer::new(b"127.0.0.1") else {
         return Ok(None);
     };
+    let Some(name) = Peer::new(b"localhost") else {
+        return Ok(None);
+    };
+    let intake = Intake::new(alloc, Limits::stock())?;
     Ok(Some(Kept {
-        intake: Intake::new(alloc, Limits::stock())?,
+        intake,
         env: Env::new(alloc, Input::new(Bytes::new(Vec::new(alloc)))),
         peer,
         local: Local {
@@ -83,28 +99,37 @@ fn begin(alloc: Global) -> Result<Option<Kept>, NoMemory> {
 /// Takes the requests of the text in, one behind the other. False where they don't end with it.
 fn turn(alloc: Global, makes: Makes, text: &[u8], kept: &mut Kept) -> Result<bool, NoMemory> {
     let mut rest = text;
-    while !rest.is_empty() {
+    for _ in 0..REQUESTS {
         let Feed::Whole(n) = kept.intake.feed(rest)? else {
             return Ok(false);
         };
-        rest = &rest[n..];
-        make(alloc, makes, kept)?;
-        kept.intake.advance();
+        if !make(alloc, makes, kept)? {
+            return Ok(false);
+        }
+        match rest.get(n..) {
+            Some(behind) if !behind.is_empty() => rest = behind,
+            _ => return Ok(true),
+        }
     }
-    Ok(true)
+    Ok(false)
 }
 
-fn make(alloc: Global, makes: Makes, kept: &mut Kept) -> Result<(), NoMemory> {
+/// Makes what is wanted of the request that stands, and starts the next. False where none stands.
+fn make(alloc: Global, makes: Makes, kept: &mut Kept) -> Result<bool, NoMemory> {
+    if kept.intake.request().is_none() {
+        return Ok(false);
+    }
     let input = kept.intake.take_input();
     let Some(request) = kept.intake.request() else {
-        return Ok(());
+        return Ok(false);
     };
     match makes {
-        Makes::Nothing => Ok(()),
+        Makes::Nothing => {}
         Makes::New => {
             let _env = env_of(alloc, request, input, &kept.peer, &kept.local)?;
-            Ok(())
         }
-        Makes::Kept => refill(&mut kept.env, request, input, &kept.peer, &kept.local),
+        Makes::Kept => refill(&mut kept.env, request, input, &kept.peer, &kept.local)?,
     }
+    kept.intake.advance();
+    Ok(true)
 }

@@ -62,3 +62,12 @@ env_whole e fixed content fields r bytes peer local input empty is_fixed is_cont
     ∙ ap (λ (ps : Pairs). host_last r.authority (fold (place_field r.authority) ps r.fields)) at
     ∙ placed_behind r.authority (fixed_pairs whole peer local ++ content_pairs whole) r.fields (no_fields_before whole peer local)
     ∙ append_assoc (fixed_pairs whole peer local) (content_pairs whole) (with_authority r.authority (field_pairs r.fields))
+
+-- and the input stays
+pub input_kept : (e fixed content fields : Environment) (input : Reading) (ps qs rs : Pairs) → e ≡ empty_env input
+    → fixed ≡ with_pairs e ps → content ≡ with_pairs fixed qs → fields ≡ with_pairs content rs → fields.input ≡ input
+input_kept e fixed content fields input ps qs rs empty is_fixed is_content is_fields =
+    ap (λ (m : Environment). m.input) is_fields
+    ∙ ap (λ (m : Environment). m.input) is_content
+    ∙ ap (λ (m : Environment). m.input) is_fixed
+    ∙ ap (λ (m : Environment). m.input) empty

@@ -7,7 +7,7 @@ use Rattle.std.specs.List.{fold}
 use Rattle.rack_text.specs.Case.{same_ignoring_case}
 use Rattle.rack_types.specs.Env.{Environment, Pairs, with_pairs}
 use Rattle.rack_types.specs.Fields.{values_of}
-use Rattle.rack_types.proofs.FieldLemmas.{IsFieldAt, take_field, values_here}
+use Rattle.rack_types.proofs.CallerLemmas.{IsFieldAt, take_field, values_here}
 use Rattle.rack_env.specs.Fields.{join_pair}
 use Rattle.rack_env.specs.Placing.{join_values, place_field}
 

@@ -11,7 +11,7 @@ use Rattle.rack_types.specs.Env.{Pairs, get_pair}
 use Rattle.rack_types.specs.Fields.{values_of}
 use Rattle.rack_types.specs.Request.{Parts}
 use Rattle.rack_types.specs.declared.peer.Local.{Local}
-use Rattle.rack_types.proofs.PairLaws.{get_pair-set_pair-other, get_pair-set_pair-same}
+use Rattle.rack_types.proofs.CallerLemmas.{get_pair-set_pair-other, get_pair-set_pair-same}
 use Rattle.rack_env.specs.Environment.{content_pairs, env_pairs, fixed_pairs}
 use Rattle.rack_env.specs.Fields.{field_pairs, http_name, is_left_out, is_underscore, join_pair, joined, name_byte, put_field, with_authority, with_more}
 use Rattle.rack_env.proofs.EnvLemmas.{no_fields_before}

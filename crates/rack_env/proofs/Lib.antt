@@ -6,4 +6,5 @@ pub mod HostLemmas
 pub mod JoinLemmas
 pub mod NameLemmas
 pub mod PlaceLemmas
+mod RaiseLemmas
 pub mod RuleLemmas

@@ -7,7 +7,7 @@ use Rattle.std.specs.Char.{to_ascii_lowercase}
 use Rattle.std.specs.List.{fold, list_any}
 use Rattle.rack_text.specs.Case.{lowered, same_ignoring_case}
 use Rattle.rack_types.specs.Env.{Pairs, get_pair}
-use Rattle.rack_types.proofs.PairLaws.{get_pair-set_pair-other}
+use Rattle.rack_types.proofs.CallerLemmas.{get_pair-set_pair-other}
 use Rattle.rack_env.specs.Fields.{field_pairs, http_name, is_left_out, is_underscore, join_pair, name_byte, put_field, with_authority, with_more}
 
 -- a byte of an environment's name, as it is in a field's name in lower case

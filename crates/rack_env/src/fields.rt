@@ -81,10 +81,17 @@ fn write_name(name: &mut Vec<u8>, field: &[u8]) -> Result<(), NoMemory>
     name.clear();
     name.extend_from_slice(b"HTTP_")?;
     name.extend_from_slice(field)?;
-    for byte in name[5..].iter_mut() {
+    raise(name.as_mut_slice());
+    Ok(())
+}
+
+// Raises each byte of a name, in one pass.
+fn raise(name: &mut [u8])
+    ensures { name.new ≡ map spec.name_byte name.old }
+{
+    for byte in name.iter_mut() {
         *byte = name_byte(*byte);
     }
-    Ok(())
 }
 
 // A byte of a field's name: in upper case, with `_` for `-`.

@@ -2,6 +2,7 @@
 use Rattle.std.proofs.Common.{Bool, List, ℕ}
 use Rattle.rack_types.specs.Request.{Parts, framed}
 use Rattle.rack_types.specs.Sound.{IsSound}
+pub use Rattle.rack_types.proofs.PairLaws.{get_pair-set_pair-other, get_pair-set_pair-same, set_pair-new}
 pub use Rattle.rack_types.proofs.FieldLemmas.{IsFieldAt, take_field, field_at_name, values_more, values_here, values_elsewhere, HasSeen, seen_here, seen_elsewhere}
 
 -- the rules of an environment rest on nothing of the body

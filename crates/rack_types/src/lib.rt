@@ -18,6 +18,7 @@ mod plain;
 mod request;
 mod rules;
 mod runner;
+mod sending;
 mod table;
 #[cfg(test)]
 mod tests;

@@ -5,7 +5,7 @@ use Rattle.rack_env.proofs.content.put_content.Goals as goal
 
 pub returns-then-chunked : goal.returns-then-chunked
 returns-then-chunked c = λ bytes long.
-    IfOk-equal c.set.result _ _ _ c.set.ensures.set
+    IfOk-equal c.set_static.result _ _ _ c.set_static.ensures.set
     (chunks_put c.args.env.now c.put_values.new.env c.args.request.now bytes c.args.body _ c.in_ok-put_values.ensures c.requires.no_length (sym c.chunked.ensures ∙ c.if-chunked.true) long (c.as_bytes.ensures.value ∙ c.format.ensures.text))
 
 pub put_values-requires-2 : goal.put_values-requires-2

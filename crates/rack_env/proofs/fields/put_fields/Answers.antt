@@ -1,4 +1,4 @@
-use Rattle.rack_types.proofs.FieldLemmas.{IsFieldAt}
+use Rattle.rack_types.proofs.CallerLemmas.{IsFieldAt}
 use Rattle.std.specs.Option.{option_copied}
 use Rattle.rack_env.proofs.FieldLemmas.{field_placed}
 use Rattle.rack_env.proofs.fields.put_fields.Goals as goal

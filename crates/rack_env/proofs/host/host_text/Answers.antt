@@ -1,6 +1,6 @@
 use Rattle.std.proofs.Common.{◌≡◌, codes, sym, ap, ◌∙◌, None}
 use Rattle.std.specs.Option.{option_copied}
-use Rattle.rack_types.proofs.FieldLemmas.{IsFieldAt, values_elsewhere}
+use Rattle.rack_types.proofs.CallerLemmas.{IsFieldAt, values_elsewhere}
 use Rattle.rack_types.specs.Fields.{values_of}
 use Rattle.rack_env.specs.Host.{host_text}
 use Rattle.rack_env.proofs.FieldLemmas.{first_value}
