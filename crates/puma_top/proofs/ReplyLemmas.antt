@@ -16,6 +16,7 @@ unfolding digits
 two_hundred = refl
 
 status_is : status_line 200 ≡ codes "HTTP/1.1 200 OK\r\n"
+unfolding reason
 status_is = ap (λ d. codes "HTTP/1.1 " ++ d ++ codes " " ++ reason 200 ++ crlf) two_hundred
 
 -- five pieces, the third of three

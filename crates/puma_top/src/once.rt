@@ -33,7 +33,7 @@ pub(crate) enum Came {
 }
 
 /// Reads until a request or a refusal stands, or to the input's end, and writes the one reply to it.
-pub(crate) fn once<S: Source, K: Sink>(
+pub(crate) fn serve<S: Source, K: Sink>(
     alloc: Global,
     stack: Stack<'_>,
     src: &mut S,

@@ -1,13 +1,13 @@
 // The commands that wait for nobody.
-ghost use Rattle.std.specs.Prelude.{◌≡◌};
+ghost use Rattle.std.specs.Prelude.{◌≡◌, ◌≢◌, Some};
 ghost use Rattle.rack_outside.specs.Source.{IsPrefix};
 ghost use Rattle.puma_top.specs.Seen.{seen};
-ghost use Rattle.puma_top.specs.Words.{command_of};
+ghost use Rattle.puma_top.specs.Words.{command_of, once};
 ghost use Rattle.puma_top.specs.Status.{OnUsage, OnUnread};
 ghost use Rattle.puma_top.specs.Quiet.{Ran};
 ghost use Rattle.puma_top.specs.QuietSteps.{Did, Opens, files_seen};
 
-use crate::once::once;
+use crate::once::serve;
 use crate::stack::read_stack_line;
 use crate::words::{Command, command_of};
 use crate::{FileWhy, Status};
@@ -53,16 +53,35 @@ fn run_command<F: Files, S: Source, K: Sink>(
     ensures unasked { OnUsage result (files.new ≡ files.old) }
     ensures unread { OnUnread result ((src.new ≡ src.old) × (out.new ≡ out.old)) }
 {
-    let name = match command_of(words) {
-        Some(Command::Once(name)) => name,
-        None => return Status::Usage,
+    let Some(command) = command_of(words) else {
+        return Status::Usage;
     };
+    match command {
+        Command::Once(name) => run_once(alloc, name, files, src, out),
+    }
+}
+
+// Serves one connection by the stack of the file with this name.
+fn run_once<F: Files, S: Source, K: Sink>(
+    alloc: Global,
+    name: &str,
+    files: &mut F,
+    src: &mut S,
+    out: &mut K,
+) -> Status
+    ensures did { let shown = seen F.holds F.texts F.faults S.input S.given S.faults K.written K.faults in
+        Did result (Some (once name.now)) (shown files.old src.old out.old) (shown files.new src.new out.new) }
+    ensures same { S.input src.new ≡ S.input src.old }
+    ensures prefix { IsPrefix (S.given src.old) (S.input src.old) → IsPrefix (S.given src.new) (S.input src.new) }
+    ensures used { result ≢ Status.Usage }
+    ensures unread { OnUnread result ((src.new ≡ src.old) × (out.new ≡ out.old)) }
+{
     let text = match read_stack(files, name) {
         Ok(text) => text,
         Err(status) => return status,
     };
     match read_stack_line(text.get()) {
-        Some(stack) => once(alloc, stack, src, out),
+        Some(stack) => serve(alloc, stack, src, out),
         None => Status::Stack { line: 1, rule: 0 },
     }
 }

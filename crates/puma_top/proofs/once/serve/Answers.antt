@@ -8,8 +8,8 @@ use Rattle.puma_top.specs.OnceSteps.{Arrives}
 use Rattle.puma_top.specs.Reply.{endpoint_reply}
 use Rattle.puma_top.specs.declared.once.Came.{Came}
 use Rattle.puma_top.proofs.OnceLemmas.{if_ok_at, replies_asked, replies_unbuilt, replies_fault, sent}
-use Rattle.puma_top.proofs.once.once.Goals as goal
-use Rattle.puma_top.proofs.once.once.Goals.{in-Asked, in-Unbuilt, in-Refused}
+use Rattle.puma_top.proofs.once.serve.Goals as goal
+use Rattle.puma_top.proofs.once.serve.Goals.{in-Asked, in-Unbuilt, in-Refused}
 
 pub returns-in-Ok-reply-clause-ends : goal.returns-in-Ok-reply-clause-ends
 returns-in-Ok-reply-clause-ends g c = elim c.match-came.branch [
