@@ -1,8 +1,8 @@
 -- Each kind of step keeps the rule of a lane.
-use Rattle.std.proofs.Common.{◌≡◌, ◌≢◌, ℕ, zero, suc, ◌+◌, ◌-◌, ◌≤◌, Bool, true, false, true≢false, List, [], ◌∷◌, ◌++◌, map, length, set, sym, refl, ap, ◌∙◌, subst, ⊎_elim, arith}
+use Rattle.std.proofs.Common.{◌≡◌, ◌≢◌, ℕ, zero, suc, ◌+◌, ◌-◌, ◌≤◌, true, true≢false, List, [], ◌∷◌, ◌++◌, map, set, sym, refl, ap, ◌∙◌, subst, ⊎_elim, arith}
 use Rattle.std.specs.Prelude.{sum_by, All}
 use Rattle.std.proofs.lemmas.List.Sums.{sum_by-cons, sum_by-append, sum_by_push}
-use Rattle.std.proofs.lemmas.List.Elements.{All-nil, All-head, All-tail, All-push}
+use Rattle.std.proofs.lemmas.List.Elements.{All-nil, All-tail, All-push}
 use mathlib.Core.Option.{some, some-injective, some-ne-none}
 use lib.ListN.{get_elem?}
 use Rattle.std.specs.declared.snapshot.Snapshot.{Snapshot}
@@ -14,7 +14,7 @@ use Rattle.pool_core.specs.declared.view.Stage.{Stage}
 use Rattle.pool_core.specs.declared.view.Stage.TheVariants.{Fresh, Loaded, Open}
 use Rattle.pool_core.specs.declared.view.PassView.{PassView}
 use Rattle.pool_core.specs.Repeats.{SameElements}
-use Rattle.pool_core.specs.Pass.{IsOpen, FitsStage, IsWhole, with_put, with_taken, split_off, with_one_more_out, joined, Knows, HeldAtOnce, HeldItem}
+use Rattle.pool_core.specs.Pass.{IsOpen, FitsStage, IsWhole, with_put, with_taken, split_off, with_one_more_out, joined, Knows, HeldItem}
 use Rattle.pool_core.specs.Rule.{fresh_pass, at_stage, spent, FitsView, Holds, entries, Kept, Puts, Takes, Learns, PutsData, TakesData, Agrees}
 use Rattle.pool_core.proofs.ViewLemmas.{sum_by-set_at, le-sum_by, get_elem-set, each-set, others_have_none, sum_by-alone}
 
@@ -351,14 +351,3 @@ module _ {T D : Type 0} (entry : T → ℕ × ℕ) (fits : D → T → Type 0) w
       let a = h.knows.balance whole one in
       let b = same one in
       omega (arith, sum_by-append one v.taken (map entry (x ∷ h.rest)), sum_by-cons one (entry x) (map entry h.rest))
-
-  -- and where none is there, what was put was taken
-  pub none_same : (v : PassView D) → HeldAtOnce entry fits v 0 → IsWhole v → SameElements v.put v.taken
-  none_same v h whole weight =
-      let a = h.knows.balance whole weight in
-      let none : map entry h.items ≡ [] = no_items h.items h.count in
-      let b : sum_by weight (map entry h.items) ≡ 0 = ap (sum_by weight) none in
-      omega (arith, sum_by-append weight v.taken (map entry h.items)) where
-        no_items : (items : List T) → length items ≡ 0 → map entry items ≡ []
-        no_items [] e = refl
-        no_items (x ∷ xs) e = absurd (omega arith)

@@ -1,5 +1,5 @@
 -- When a pool of workers grows and shrinks. This project's own.
-use Rattle.std.specs.Prelude.{ℕ, ◌+◌, Bool, ◌&&◌, ◌||◌, ◌==◌, nat_lt, if◌then◌else◌}
+use Rattle.std.specs.Prelude.{Bool, ◌&&◌, ◌||◌, ◌==◌, nat_lt, if◌then◌else◌}
 use Rattle.pool_core.specs.declared.book.PoolBook.{PoolBook}
 use Rattle.pool_core.specs.declared.size.Size.{Size}
 use Rattle.pool_core.specs.declared.size.Size.TheVariants.{More, Trim, Stay}

@@ -1,5 +1,5 @@
 -- Lists with repeats: lists that differ in their order alone.
-use Rattle.std.specs.Prelude.{◌≡◌, ℕ, Bool, ◌&&◌, ◌==◌, List, sum_by, count_by}
+use Rattle.std.specs.Prelude.{◌≡◌, ℕ, ◌&&◌, ◌==◌, List, sum_by, count_by}
 
 -- the lists hold each element equally often, in whatever order: whatever the elements weigh, the lists
 -- weigh the same

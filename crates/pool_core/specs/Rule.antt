@@ -1,6 +1,6 @@
 -- The rule of a lane: what stands of its queue and its passes between any two steps. It serves inner
 -- contracts alone.
-use Rattle.std.specs.Prelude.{◌≡◌, ℕ, suc, ◌+◌, ◌≤◌, Bool, true, false, List, [], ◌∷◌, ◌++◌, map, sum_by, All}
+use Rattle.std.specs.Prelude.{◌≡◌, ℕ, suc, ◌+◌, ◌≤◌, true, false, List, [], ◌∷◌, map, sum_by, All}
 use mathlib.Core.Option.{some}
 use lib.ListN.{get_elem?}
 use Rattle.std.specs.declared.snapshot.Snapshot.{Snapshot}
@@ -9,7 +9,7 @@ use Rattle.pool_core.specs.declared.view.Cargo.TheVariants.{Start, Item}
 use Rattle.pool_core.specs.declared.view.Stage.{Stage}
 use Rattle.pool_core.specs.declared.view.Stage.TheVariants.{Fresh, Loaded, Open}
 use Rattle.pool_core.specs.declared.view.PassView.{PassView}
-use Rattle.pool_core.specs.Pass.{FitsStage, with_put, with_taken, HeldItem, Knows}
+use Rattle.pool_core.specs.Pass.{with_put, with_taken, HeldItem, Knows}
 
 module _ {D : Type 0} where
   -- the first pass of a queue that holds nothing, before the lane is made

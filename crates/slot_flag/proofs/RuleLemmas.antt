@@ -1,18 +1,15 @@
 -- Each kind of step keeps the rule of a flag.
-use Rattle.std.proofs.Common.{◌≡◌, ◌≢◌, ℕ, zero, suc, ◌+◌, ◌-◌, ◌^◌, ◌<◌, ◌≤◌, max, Bool, true, false, true≢false, List, [], ◌∷◌, ◌++◌, set, slice_index, slice_set, sym, refl, ap, ◌∙◌, subst, ⊎_elim, arith}
+use Rattle.std.proofs.Common.{◌≡◌, ◌≢◌, ℕ, zero, suc, ◌-◌, ◌≤◌, max, true, true≢false, List, [], ◌∷◌, set, slice_index, slice_set, sym, refl, ap, ◌∙◌, subst, ⊎_elim, arith}
 use Rattle.std.specs.Prelude.{sum_by}
 use Rattle.std.proofs.lemmas.List.Sums.{sum_by_push}
 use mathlib.Core.Option.{some, none, some-injective, some-ne-none}
 use lib.ListN.{get_elem?}
-use Rattle.atomic_table.specs.Table.{State, Me, keeps, Step, step, Allows, Splits, Joins}
+use Rattle.atomic_table.specs.Table.{State, Me, keeps, step, Allows, Splits, Joins}
 use Rattle.atomic_table.proofs.Lists.{at_snoc, set_else}
 use Rattle.slot_flag.specs.declared.view.SeatView.{SeatView}
 use Rattle.slot_flag.specs.Seat.{IsWhole, first_seat, split_off, with_one_more_out, joined, spent}
-use Rattle.slot_flag.specs.Rule.{highest, Fits, Kept, Tells, stepped, Raises, Looks, Learns}
+use Rattle.slot_flag.specs.Rule.{Fits, Kept, Tells, stepped, Raises, Looks, Learns}
 use Rattle.slot_flag.proofs.ViewLemmas.{sum_by-set_at, le-sum_by, get_elem-set, each-set, le-highest, highest-le, highest-set, highest-append, highest-without, highest-alone}
-
-live : SeatView → ℕ
-live v = v.live
 
 pub begins : Kept (0 ∷ []) (first_seat ∷ [])
 begins =

@@ -1,5 +1,5 @@
 -- What a seat of a flag shows, and what the calls make of it. This project's own.
-use Rattle.std.specs.Prelude.{◌≡◌, ℕ, ◌+◌, ◌-◌, max, Bool, true, false, []}
+use Rattle.std.specs.Prelude.{◌≡◌, ℕ, ◌+◌, ◌-◌, max, true, false, []}
 use Rattle.slot_flag.specs.declared.view.SeatView.{SeatView}
 use Rattle.slot_flag.specs.declared.flag.Flag.{Flag}
 use Rattle.slot_flag.specs.declared.flag.Seat.{Seat}
