@@ -1,10 +1,13 @@
 """Instructions and time of `puma once`, for short and long heads, whole and byte by byte, for heads with
 few and with many fields, with and without the environment, and for bodies by length and in chunks; and
-what a request costs on kept objects, once all is warm.
+what a request costs on kept objects (`warm.py`).
 
 Instructions are counted by callgrind and are repeatable: over the whole run of the program from its
 start, or of one function with all that it calls. Times are those of this machine, from starting the
 program until it has ended.
+
+What is wanted is compared with what was found. The last line counts both, and the status is 0 only where
+something was compared and all of it is as wanted.
 """
 
 import os
@@ -19,10 +22,11 @@ import tempfile
 import threading
 import time
 
+import warm
+
 TOP = os.path.dirname(os.path.dirname(os.path.abspath(__file__)))
 PUMA = os.path.join(TOP, "bin", "puma")
 PROGRAM = os.path.join(TOP, "crates", "puma_cli", "out", "puma_cli")
-WARM = os.path.join(TOP, "crates", "bench_warm", "out", "bench_warm")
 STACK = os.path.join(TOP, "examples", "hello.stack")
 ECHO = os.path.join(TOP, "examples", "echo.stack")
 
@@ -34,7 +38,12 @@ WAYS = ((WHOLE, None), ("byte by byte", 1))
 PIECES = {WHOLE: None, "in pieces of 16,384 bytes": 16384, "in pieces of 7 bytes": 7, "byte by byte": 1}
 RUNS = 40
 SECONDS = 5
-TURNS = 1000
+# What is wanted at most: growth of instructions at four times the bytes and at eight times the fields, and milliseconds.
+MOST_GROWTH = 4.40
+MOST_FOR_FIELDS = 9
+MOST_TIME = 10
+# Each figure that was compared: its name, what was found and what is wanted at most.
+compared = []
 
 
 def long_head(size):
@@ -124,94 +133,6 @@ def heads_with_fields():
     ]
 
 
-WORD = 2 ** 64 - 1
-MULTIPLIER = 0x9E37_79B9_7F4A_7C15
-
-
-def folded(a, b):
-    return (a * b & WORD) ^ (a * b >> 64)
-
-
-def map_slot(name):
-    """Where the map looks for a name of 9 to 32 bytes: the tag, and one of 16 groups."""
-    def number(at):
-        return int.from_bytes(name[at:at + 8], "little")
-
-    state = 0x243F_6A88_85A3_08D3 + len(name) & WORD
-    if len(name) > 16:
-        state = folded(number(0) ^ state, number(8) ^ MULTIPLIER)
-    state = folded(number(max(0, len(name) - 16)) ^ state, number(len(name) - 8) ^ MULTIPLIER)
-    hashed = (state ^ state >> 32) & 0xFFFF_FFFF
-    return max(1, hashed >> 24), hashed & 15
-
-
-def colliding(count):
-    """So many field names, as long as `X-Field-00000`, whose names in the environment share their place."""
-    found = {}
-    for i in range(10 ** 6):
-        name = b"X-Field-%05d" % i if i < 10 ** 5 else b"X-Name-%06d" % i
-        place = map_slot(b"HTTP_" + name.upper().replace(b"-", b"_"))
-        found.setdefault(place, []).append(name)
-        if len(found[place]) == count:
-            return found[place]
-    sys.exit("no names were found that collide")
-
-
-def counted_turns(makes, text, turns):
-    """The instructions and the allocations of so many turns."""
-    with tempfile.TemporaryDirectory() as folder:
-        into = os.path.join(folder, "counted")
-        text_file = os.path.join(folder, "text")
-        with open(text_file, "wb") as file:
-            file.write(text)
-        command = [WARM, makes, str(turns)]
-        with open(text_file) as near:
-            subprocess.run(["valgrind", "--tool=callgrind", f"--callgrind-out-file={into}", *command],
-                           stdin=near, stderr=subprocess.DEVNULL, check=True)
-        with open(into) as file:
-            instructions_of = int(re.search(r"^(?:summary|totals):\s*(\d+)", file.read(), re.M).group(1))
-        with open(text_file) as near:
-            told = subprocess.run(["valgrind", "--tool=memcheck", *command], stdin=near, capture_output=True, check=True)
-        allocations = re.search(rb"total heap usage: ([\d,]+) allocs", told.stderr).group(1)
-        return instructions_of, int(allocations.replace(b",", b""))
-
-
-def turn(makes, text):
-    """The instructions and the allocations of one turn, once all is warm."""
-    few, many = counted_turns(makes, text, TURNS), counted_turns(makes, text, 2 * TURNS)
-    return tuple((after - before) / TURNS for before, after in zip(few, many))
-
-
-def warm_figures():
-    """What a request costs on kept objects: taken in alone, with a new environment, with a kept one."""
-    print(f"\n| on kept objects, a turn of {TURNS:,} | bytes | intake | new environment | kept environment | allocations, kept |")
-    print("|---|--:|--:|--:|--:|--:|")
-    heads = dict(heads_with_fields())
-    curl, browser = heads["as curl writes it"], heads["a browser's, 20 fields, 1 KiB of cookies"]
-    differ = request([b"X-Field-%05d: value" % i for i in range(63)])
-    collide = request([name + b": value" for name in colliding(63)])
-    costs = {}
-    for name, text in [("as curl writes it", curl), ("a browser's, 20 fields, 1 KiB of cookies", browser),
-                       ("64 fields, names that differ", heads["64 fields, names that differ"]),
-                       ("64 fields, one name", heads["64 fields, one name"]),
-                       ("64 fields, longer names that differ", differ), ("64 fields, names that collide in the map", collide),
-                       ("curl's and the browser's by turns", curl + browser),
-                       ("the browser's and 64 that differ by turns", browser + differ),
-                       ("the browser's and 64 that collide by turns", browser + collide)]:
-        taken_in, _ = turn("intake", text)
-        made, _ = turn("new", text)
-        kept, allocations = turn("kept", text)
-        costs[name] = made - taken_in, kept - taken_in
-        print(f"| {name} | {len(text):,} | {taken_in:,.0f} | {made - taken_in:,.0f} | {kept - taken_in:,.0f} | {allocations:,.0f} |", flush=True)
-    print("\nThe environment is the difference to the intake alone. By turns, a line holds both requests.")
-    print("\n| names that collide, against others as long, at most 4 times is wanted | new environment | kept environment |")
-    print("|---|--:|--:|")
-    for name, one, other in [("the same head again", "64 fields, names that collide in the map", "64 fields, longer names that differ"),
-                             ("by turns with the browser's", "the browser's and 64 that collide by turns", "the browser's and 64 that differ by turns")]:
-        new, kept = (a / b for a, b in zip(costs[one], costs[other]))
-        print(f"| {name} | {new:.2f} times | {kept:.2f} times |")
-
-
 def by_length(size):
     return request([b"Content-Length: %d" % size]).replace(b"GET", b"POST", 1) + b"a" * size
 
@@ -249,10 +170,11 @@ def body_figures():
             for size in (64, 256):
                 count(f"{size} KiB {kind}", made(size * KIB), way, size * KIB)
             grown.append((kind, way, counts[f"256 KiB {kind}", way] / counts[f"64 KiB {kind}", way]))
-    print("\n| growth from 64 KiB to 256 KiB, at most 4.40 is wanted | comes | instructions |")
+    print(f"\n| growth from 64 KiB to 256 KiB, at most {MOST_GROWTH:.2f} is wanted | comes | instructions |")
     print("|---|---|--:|")
     for kind, way, times_as_many in grown:
         print(f"| {kind} | {way} | {times_as_many:.2f} times |")
+        compared.append((f"growth of a body {kind}, {way}", times_as_many, MOST_GROWTH))
 
 
 def without_environment(text):
@@ -264,9 +186,6 @@ def main():
     # What is built is built here, and not measured.
     if subprocess.run([PUMA, "once", STACK], stdin=subprocess.DEVNULL).returncode != 0:
         sys.exit("the program was not built")
-    if subprocess.run(["rt", "run", "--", "kept", "1"], cwd=os.path.dirname(os.path.dirname(WARM)), stdin=subprocess.DEVNULL,
-                      stdout=subprocess.DEVNULL).returncode not in (0, 5):
-        sys.exit("the warm program was not built")
     can_count = shutil.which("valgrind") is not None
     if not can_count:
         print("passed over, since valgrind is missing: instructions\n")
@@ -288,11 +207,14 @@ def main():
                 counted = f"{counts[name, way]:,}"
             print(f"| {name} | {way} | {counted} | {min(taken):.2f} | {statistics.median(taken):.2f} |", flush=True)
 
-    print("\n| growth from 8 KiB to 32 KiB | instructions, at most 4.40 is wanted | best time |")
+    print(f"\n| growth from 8 KiB to 32 KiB | instructions, at most {MOST_GROWTH:.2f} is wanted | best time |")
     print("|---|--:|--:|")
     for way, _ in WAYS:
         few, many = ("head of 8 KiB", way), ("head of 32 KiB", way)
-        grown = f"{counts[many] / counts[few]:.2f} times" if can_count else "not counted"
+        grown = "not counted"
+        if can_count:
+            grown = f"{counts[many] / counts[few]:.2f} times"
+            compared.append((f"growth of a head, {way}", counts[many] / counts[few], MOST_GROWTH))
         print(f"| {way} | {grown} | {best[many] / best[few]:.2f} times |")
 
     empty = instructions(b"", None) if can_count else 0
@@ -308,20 +230,34 @@ def main():
     if can_count:
         print("\nThe environment is the difference to the same head as a HEAD, which is answered without one; it holds")
         print("the difference of the two replies too, the same for each head.")
-        print("\n| growth of the environment from 8 to 64 fields, at most 9 times is wanted | instructions |")
+        print(f"\n| growth of the environment from 8 to 64 fields, at most {MOST_FOR_FIELDS} times is wanted | instructions |")
         print("|---|--:|")
         for names in ("names that differ", "one name"):
-            print(f"| {names} | {made['64 fields, ' + names] / made['8 fields, ' + names]:.2f} times |")
+            grown = made['64 fields, ' + names] / made['8 fields, ' + names]
+            print(f"| {names} | {grown:.2f} times |")
+            compared.append((f"growth of the environment, {names}", grown, MOST_FOR_FIELDS))
 
         body_figures()
-        warm_figures()
+        compared.extend(warm.figures(request, dict(heads_with_fields())))
 
-    print("\n| starting and answering the short request, less than 10 ms is wanted | best time, ms | middle time, ms |")
+    print(f"\n| starting and answering the short request, at most {MOST_TIME} ms is wanted | best time, ms | middle time, ms |")
     print("|---|--:|--:|")
     for name, command in (("the program", PROGRAM), ("through `bin/puma`", PUMA)):
         taken = times([command, "once", STACK], GET, None)
         print(f"| {name} | {min(taken):.2f} | {statistics.median(taken):.2f} |")
+        compared.append((f"starting {name}", min(taken), MOST_TIME))
+    return verdict()
+
+
+def verdict():
+    """Says of each figure that is not as wanted, and how many are, and gives the status."""
+    missed = [(name, found, most) for name, found, most in compared if not found <= most]
+    print()
+    for name, found, most in missed:
+        print(f"NOT AS WANTED: {name}: {found:.2f}, and at most {most:.2f} is wanted")
+    print(f"{len(compared) - len(missed)} as wanted, {len(missed)} not as wanted")
+    return 1 if missed or not compared else 0
 
 
 if __name__ == "__main__":
-    main()
+    sys.exit(main())
