@@ -1,15 +1,13 @@
 """Instructions and time of `puma once`, for short and long heads, whole and byte by byte, for heads with
 few and with many fields, with and without the environment, and for bodies by length and in chunks; and
-what a request costs on kept objects, once all is warm.
+what a request costs on kept objects (`warm.py`).
 
 Instructions are counted by callgrind and are repeatable: over the whole run of the program from its
 start, or of one function with all that it calls. Times are those of this machine, from starting the
 program until it has ended.
-
 What is wanted is compared with what was found. The last line counts both, and the status is 0 only where
 something was compared and all of it is as wanted.
 """
-
 import os
 import platform
 import re
@@ -21,14 +19,12 @@ import sys
 import tempfile
 import threading
 import time
-
+import warm
 TOP = os.path.dirname(os.path.dirname(os.path.abspath(__file__)))
 PUMA = os.path.join(TOP, "bin", "puma")
 PROGRAM = os.path.join(TOP, "crates", "puma_cli", "out", "puma_cli")
-WARM = os.path.join(TOP, "crates", "bench_warm", "out", "bench_warm")
 STACK = os.path.join(TOP, "examples", "hello.stack")
 ECHO = os.path.join(TOP, "examples", "echo.stack")
-
 GET = b"GET / HTTP/1.1\r\nHost: a\r\n\r\n"
 KIB = 1024
 # How a text comes: the bytes of each piece, or none where it comes from a file.
@@ -44,13 +40,9 @@ MOST_TIME = 10
 # Each figure that was compared: its name, what was found and what is wanted at most.
 compared = []
 TURNS = 1000
-
-
 def long_head(size):
     """A request of so many bytes, by its target."""
     return GET.replace(b"/", b"/" + b"a" * (size - len(GET)), 1)
-
-
 def feed(end, text, size):
     try:
         for at in range(0, len(text), size):
@@ -59,8 +51,6 @@ def feed(end, text, size):
         pass  # the program has read enough
     finally:
         end.close()
-
-
 def run(command, text, cut):
     """Runs the program on this text and answers the seconds and what it wrote."""
     if cut:
@@ -81,22 +71,17 @@ def run(command, text, cut):
     child.wait()
     seconds = time.perf_counter() - begun
     child.stdout.close()
-    if feeder:
         feeder.join()
     wanted = b"HTTP/1.1 501 " if text.startswith(b"HEAD") else b"HTTP/1.1 200 OK\r\n"
     if child.returncode != 0 or (text and not out.startswith(wanted)):
         sys.exit(f"the program answered with status {child.returncode}: {out[:80]!r}")
     return seconds
-
-
 def times(command, text, cut):
     """The milliseconds of many runs, of fewer where they take long."""
     taken, end = [], time.perf_counter() + SECONDS
     while len(taken) < RUNS and (len(taken) < 3 or time.perf_counter() < end):
         taken.append(run(command, text, cut) * 1000)
     return taken
-
-
 def instructions(text, cut, stack=STACK):
     """Those of the whole run."""
     with tempfile.TemporaryDirectory() as folder:
@@ -104,12 +89,8 @@ def instructions(text, cut, stack=STACK):
         run(["valgrind", "--tool=callgrind", f"--callgrind-out-file={counted}", PROGRAM, "once", stack], text, cut)
         with open(counted) as file:
             return int(re.search(r"^(?:summary|totals):\s*(\d+)", file.read(), re.M).group(1))
-
-
 def request(fields):
     return b"\r\n".join([b"GET /index.html?x=1 HTTP/1.1", b"Host: localhost:9292", *fields, b"", b""])
-
-
 def heads_with_fields():
     """Heads by their fields: what curl and a browser send, and 8 and 64 fields with the Host field."""
     curl = [b"User-Agent: curl/8.5.0", b"Accept: */*"]
@@ -130,119 +111,22 @@ def heads_with_fields():
         ("64 fields, names that differ", request([b"X-Field-%02d: value" % i for i in range(63)])),
         ("8 fields, one name", request([b"X-Field-00: value"] * 7)),
         ("64 fields, one name", request([b"X-Field-00: value"] * 63)),
-    ]
-
-
-WORD = 2 ** 64 - 1
-MULTIPLIER = 0x9E37_79B9_7F4A_7C15
-
-
-def folded(a, b):
-    return (a * b & WORD) ^ (a * b >> 64)
-
-
-def map_slot(name):
-    """Where the map looks for a name of 9 to 32 bytes: the tag, and one of 16 groups."""
-    def number(at):
-        return int.from_bytes(name[at:at + 8], "little")
-
-    state = 0x243F_6A88_85A3_08D3 + len(name) & WORD
-    if len(name) > 16:
-        state = folded(number(0) ^ state, number(8) ^ MULTIPLIER)
-    state = folded(number(max(0, len(name) - 16)) ^ state, number(len(name) - 8) ^ MULTIPLIER)
-    hashed = (state ^ state >> 32) & 0xFFFF_FFFF
-    return max(1, hashed >> 24), hashed & 15
-
-
-def colliding(count):
-    """So many field names, as long as `X-Field-00000`, whose names in the environment share their place."""
-    found = {}
-    for i in range(10 ** 6):
-        name = b"X-Field-%05d" % i if i < 10 ** 5 else b"X-Name-%06d" % i
-        place = map_slot(b"HTTP_" + name.upper().replace(b"-", b"_"))
-        found.setdefault(place, []).append(name)
-        if len(found[place]) == count:
-            return found[place]
-    sys.exit("no names were found that collide")
-
-
-def counted_turns(makes, text, turns):
-    """The instructions and the allocations of so many turns."""
-    with tempfile.TemporaryDirectory() as folder:
-        into = os.path.join(folder, "counted")
-        text_file = os.path.join(folder, "text")
-        with open(text_file, "wb") as file:
-            file.write(text)
-        command = [WARM, makes, str(turns)]
-        with open(text_file) as near:
-            subprocess.run(["valgrind", "--tool=callgrind", f"--callgrind-out-file={into}", *command],
-                           stdin=near, stderr=subprocess.DEVNULL, check=True)
-        with open(into) as file:
-            instructions_of = int(re.search(r"^(?:summary|totals):\s*(\d+)", file.read(), re.M).group(1))
-        with open(text_file) as near:
-            told = subprocess.run(["valgrind", "--tool=memcheck", *command], stdin=near, capture_output=True, check=True)
-        allocations = re.search(rb"total heap usage: ([\d,]+) allocs", told.stderr).group(1)
-        return instructions_of, int(allocations.replace(b",", b""))
-
-
-def turn(makes, text):
-    """The instructions and the allocations of one turn, once all is warm."""
-    few, many = counted_turns(makes, text, TURNS), counted_turns(makes, text, 2 * TURNS)
-    return tuple((after - before) / TURNS for before, after in zip(few, many))
-
-
-def warm_figures():
-    """What a request costs on kept objects: taken in alone, with a new environment, with a kept one."""
-    print(f"\n| on kept objects, a turn of {TURNS:,} | bytes | intake | new environment | kept environment | allocations, kept |")
-    print("|---|--:|--:|--:|--:|--:|")
-    heads = dict(heads_with_fields())
-    curl, browser = heads["as curl writes it"], heads["a browser's, 20 fields, 1 KiB of cookies"]
-    differ = request([b"X-Field-%05d: value" % i for i in range(63)])
-    collide = request([name + b": value" for name in colliding(63)])
-    costs = {}
-    for name, text in [("as curl writes it", curl), ("a browser's, 20 fields, 1 KiB of cookies", browser),
-                       ("64 fields, names that differ", heads["64 fields, names that differ"]),
-                       ("64 fields, one name", heads["64 fields, one name"]),
-                       ("64 fields, longer names that differ", differ), ("64 fields, names that collide in the map", collide),
-                       ("curl's and the browser's by turns", curl + browser),
-                       ("the browser's and 64 that differ by turns", browser + differ),
-                       ("the browser's and 64 that collide by turns", browser + collide)]:
-        taken_in, _ = turn("intake", text)
-        made, _ = turn("new", text)
-        kept, allocations = turn("kept", text)
-        costs[name] = made - taken_in, kept - taken_in
-        print(f"| {name} | {len(text):,} | {taken_in:,.0f} | {made - taken_in:,.0f} | {kept - taken_in:,.0f} | {allocations:,.0f} |", flush=True)
-    print("\nThe environment is the difference to the intake alone. By turns, a line holds both requests.")
-    print("\n| names that collide, against others as long, at most 4 times is wanted | new environment | kept environment |")
-    print("|---|--:|--:|")
-    for name, one, other in [("the same head again", "64 fields, names that collide in the map", "64 fields, longer names that differ"),
-                             ("by turns with the browser's", "the browser's and 64 that collide by turns", "the browser's and 64 that differ by turns")]:
-        new, kept = (a / b for a, b in zip(costs[one], costs[other]))
-        print(f"| {name} | {new:.2f} times | {kept:.2f} times |")
-
-
 def by_length(size):
     return request([b"Content-Length: %d" % size]).replace(b"GET", b"POST", 1) + b"a" * size
-
-
 def in_chunks(size, chunk):
     parts = b"".join(b"%x\r\n%s\r\n" % (n, b"a" * n) for n in [chunk] * (size // chunk))
     return request([b"Transfer-Encoding: chunked"]).replace(b"GET", b"POST", 1) + parts + b"0\r\n\r\n"
-
-
 def body_figures():
     """Instructions a byte of a body, beyond a run with the same head and no body."""
     print("\n| body | comes | instructions | a byte of the body |")
     print("|---|---|--:|--:|")
     mib = KIB * KIB
     counts = {}
-
     def count(name, text, way, size, stack=STACK):
         none = by_length(0) if b"Content-Length" in text[:200] else in_chunks(0, 1)
         found = instructions(text, PIECES[way], stack)
         counts[name, way] = found - instructions(none, None, stack)
         print(f"| {name} | {way} | {found:,} | {counts[name, way] / size:.2f} |", flush=True)
-
     for name, text in [("1 MiB by length", by_length(mib)), ("1 MiB in chunks of 16 KiB", in_chunks(mib, 16 * KIB)),
                        ("1 MiB in chunks of 1 KiB", in_chunks(mib, KIB))]:
         for way in (WHOLE, "in pieces of 16,384 bytes"):
@@ -263,24 +147,16 @@ def body_figures():
     for kind, way, times_as_many in grown:
         print(f"| {kind} | {way} | {times_as_many:.2f} times |")
         compared.append((f"growth of a body {kind}, {way}", times_as_many, MOST_GROWTH))
-
-
 def without_environment(text):
     """The same head of a request for which no environment is made: a HEAD, which is answered F0."""
     return b"HEAD" + text.removeprefix(b"GET")
-
-
 def main():
     # What is built is built here, and not measured.
     if subprocess.run([PUMA, "once", STACK], stdin=subprocess.DEVNULL).returncode != 0:
         sys.exit("the program was not built")
-    if subprocess.run(["rt", "run", "--", "kept", "1"], cwd=os.path.dirname(os.path.dirname(WARM)), stdin=subprocess.DEVNULL,
-                      stdout=subprocess.DEVNULL).returncode not in (0, 5):
-        sys.exit("the warm program was not built")
     can_count = shutil.which("valgrind") is not None
     if not can_count:
         print("passed over, since valgrind is missing: instructions\n")
-
     print(f"On {os.cpu_count()} processors, {platform.machine()}; {RUNS} runs each, or what {SECONDS} seconds allow.")
     print("Times are from the program's start to its end; byte by byte they hold the sender's too.\n")
     print("| request | read | instructions | best time, ms | middle time, ms |")
@@ -297,7 +173,6 @@ def main():
                 counts[name, way] = instructions(text, cut)
                 counted = f"{counts[name, way]:,}"
             print(f"| {name} | {way} | {counted} | {min(taken):.2f} | {statistics.median(taken):.2f} |", flush=True)
-
     print(f"\n| growth from 8 KiB to 32 KiB | instructions, at most {MOST_GROWTH:.2f} is wanted | best time |")
     print("|---|--:|--:|")
     for way, _ in WAYS:
@@ -307,7 +182,6 @@ def main():
             grown = f"{counts[many] / counts[few]:.2f} times"
             compared.append((f"growth of a head, {way}", counts[many] / counts[few], MOST_GROWTH))
         print(f"| {way} | {grown} | {best[many] / best[few]:.2f} times |")
-
     empty = instructions(b"", None) if can_count else 0
     print("\n| head | bytes | instructions of the run beyond one without input | of these the environment |")
     print("|---|--:|--:|--:|")
@@ -327,19 +201,14 @@ def main():
             grown = made['64 fields, ' + names] / made['8 fields, ' + names]
             print(f"| {names} | {grown:.2f} times |")
             compared.append((f"growth of the environment, {names}", grown, MOST_FOR_FIELDS))
-
         body_figures()
-        warm_figures()
-
+        compared.extend(warm.figures(request, dict(heads_with_fields())))
     print(f"\n| starting and answering the short request, at most {MOST_TIME} ms is wanted | best time, ms | middle time, ms |")
-    print("|---|--:|--:|")
     for name, command in (("the program", PROGRAM), ("through `bin/puma`", PUMA)):
         taken = times([command, "once", STACK], GET, None)
         print(f"| {name} | {min(taken):.2f} | {statistics.median(taken):.2f} |")
         compared.append((f"starting {name}", min(taken), MOST_TIME))
     return verdict()
-
-
 def verdict():
     """Says of each figure that is not as wanted, and how many are, and gives the status."""
     missed = [(name, found, most) for name, found, most in compared if not found <= most]
@@ -348,7 +217,5 @@ def verdict():
         print(f"NOT AS WANTED: {name}: {found:.2f}, and at most {most:.2f} is wanted")
     print(f"{len(compared) - len(missed)} as wanted, {len(missed)} not as wanted")
     return 1 if missed or not compared else 0
-
-
 if __name__ == "__main__":
     sys.exit(main())

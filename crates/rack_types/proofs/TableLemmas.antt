@@ -198,21 +198,33 @@ insert_keeps (e ∷ es) (suc n) k v absent within =
     by true rest none = cc
     by false rest none = ap (λ (ps : Pairs). e ∷ ps) (rest none)
 
--- and is behind it
-pub insert_behind : (es : Pairs) (n : ℕ) (k : List ℕ) → get_pair k (take n es) ≡ None → n ≤ length es → n ≤ position_or_len (bytes_eq k) (keys_of es)
-insert_behind es zero k absent within = omega arith
-insert_behind [] (suc n) k absent within = absurd (omega (arith, within))
-insert_behind (e ∷ es) (suc n) k absent within =
-    by (bytes_eq k e.0) (λ none. insert_behind es n k none (omega (arith, within))) absent
+-- one of a name that stands writes its value there
+pub insert_there : (es : Pairs) (n : ℕ) (k v : List ℕ) → position_or_len (bytes_eq k) (keys_of es) < n → n ≤ length es → take n (insert_entry bytes_eq es k v) ≡ set_pair k v (take n es)
+insert_there es zero k v before within = absurd (omega (arith, before))
+insert_there [] (suc n) k v before within = absurd (omega (arith, within))
+insert_there (e ∷ es) (suc n) k v before within =
+    by (bytes_eq k e.0) (λ rest. insert_there es n k v rest (omega (arith, within))) before
   where
-    by : (t : Bool) → (get_pair k (take n es) ≡ None → n ≤ position_or_len (bytes_eq k) (keys_of es)) → cond t (Some e.1) (get_pair k (take n es)) ≡ None
-        → suc n ≤ cond (not t) (1 + position_or_len (bytes_eq k) (keys_of es)) 0
-    by true rest none = cc
-    by false rest none =
-        let below = rest none in
-        omega (arith, below)
+    by : (t : Bool) → (position_or_len (bytes_eq k) (keys_of es) < n → take n (insert_entry bytes_eq es k v) ≡ set_pair k v (take n es))
+        → cond (not t) (1 + position_or_len (bytes_eq k) (keys_of es)) 0 < suc n
+        → take (suc n) (cond t ((e.0, v) ∷ es) (e ∷ insert_entry bytes_eq es k v)) ≡ cond t ((e.0, v) ∷ take n es) (e ∷ set_pair k v (take n es))
+    by true rest before = refl
+    by false rest before = ap (λ (ps : Pairs). e ∷ ps) (rest (omega (arith, before)))
 
--- where it has its value
+-- a name whose place is behind what stands does not stand
+pub absent_behind : (es : Pairs) (n : ℕ) (k : List ℕ) → n ≤ position_or_len (bytes_eq k) (keys_of es) → n ≤ length es → get_pair k (take n es) ≡ None
+absent_behind es zero k past within = refl
+absent_behind [] (suc n) k past within = absurd (omega (arith, within))
+absent_behind (e ∷ es) (suc n) k past within =
+    by (bytes_eq k e.0) (λ rest. absent_behind es n k rest (omega (arith, within))) past
+  where
+    by : (t : Bool) → (n ≤ position_or_len (bytes_eq k) (keys_of es) → get_pair k (take n es) ≡ None)
+        → suc n ≤ cond (not t) (1 + position_or_len (bytes_eq k) (keys_of es)) 0
+        → cond t (Some e.1) (get_pair k (take n es)) ≡ None
+    by true rest past = absurd (omega (arith, past))
+    by false rest past = rest (omega (arith, past))
+
+-- where an insertion puts its value
 insert_at : (es : Pairs) (k v : List ℕ) → slice_get (insert_entry bytes_eq es k v) (position_or_len (bytes_eq k) (keys_of es)) ≡ Some (k, v)
 insert_at [] k v = refl
 insert_at (e ∷ es) k v = by (bytes_eq k e.0) refl (insert_at es k v)

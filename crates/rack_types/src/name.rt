@@ -1,5 +1,5 @@
 // Names that are keys of a map: lent for ever, or owned.
-ghost use Rattle.std.specs.Prelude.{◌≡◌, [], ◌∷◌, bytes_eq, IfOk};
+ghost use Rattle.std.specs.Prelude.{◌≡◌, [], ◌∷◌, bytes_eq, IfOk, IfSome};
 ghost use Rattle.rack_types.specs.Name.{given_bytes};
 ghost use Rattle.std.specs.Cmp.{on_equiv, on_per, partial_equiv_from_equiv};
 ghost use Rattle.std.specs.Cmp.Lexicographic.{bytes_decides, nat_list_eq_equiv};
@@ -11,10 +11,56 @@ use std::alloc::Global;
 use std::hash::{Hash, Hasher};
 use std::marker::Model;
 
-// Where the bytes of a name are.
+// How many bytes of a name lie in place at most.
+const SHORT: usize = 23;
+
+// Bytes that lie in place.
+#[derive(Drop)]
+pub(crate) struct Short {
+    bytes: [u8; 23],
+    len: u8,
+}
+
+impl Model for Short {
+    ghost use Rattle.std.specs.Prelude.{◌≤◌, List, ℕ, take};
+
+    ghost Value = { List ℕ };
+
+    ghost view = { λ short. take short.len short.bytes };
+
+    ghost invariant = { λ short. short.len ≤ 23 };
+}
+
+impl Short {
+    // These bytes, where they are few enough.
+    fn new(bytes: &[u8]) -> Option<Short>
+        ensures { IfSome result (λ short. short ≡ bytes.now) }
+    {
+        let len = bytes.len();
+        if len > SHORT {
+            return None;
+        }
+        let mut kept = [0; SHORT];
+        kept[..len].copy_from_slice(bytes);
+        Some(Short {
+            bytes: kept,
+            len: len as u8,
+        })
+    }
+
+    // The bytes.
+    fn get(&self) -> &[u8]
+        ensures { result.now ≡ self.now }
+    {
+        &self.bytes[..self.len as usize]
+    }
+}
+
+// Where the bytes of a name are: lent for ever, in place, or in memory of their own.
 #[derive(Drop)]
 pub(crate) enum Text {
     Lent(&'static [u8]),
+    Short(Short),
     Owned(Bytes),
 }
 
@@ -60,16 +106,26 @@ impl Name {
     {
         match &self.text {
             Text::Lent(bytes) => bytes,
+            Text::Short(short) => short.get(),
             Text::Owned(bytes) => bytes.get(),
         }
     }
 
-    // The room of the bytes, where the name owns any.
-    fn into_room(self, alloc: Global) -> Bytes {
-        match self.text {
-            Text::Lent(_) => Bytes::new(Vec::new(alloc)),
-            Text::Owned(room) => room,
+    // A name with these bytes, in the room of this one where it has any and they don't lie in place.
+    fn renamed(self, alloc: Global, bytes: &[u8]) -> Result<Name, NoMemory>
+        ensures { IfOk result (λ name. name ≡ bytes.now) }
+    {
+        if let Some(short) = Short::new(bytes) {
+            return Ok(Name {
+                text: Text::Short(short),
+            });
         }
+        let mut room = match self.text {
+            Text::Owned(room) => room,
+            _ => Bytes::new(Vec::new(alloc)),
+        };
+        room.fill(bytes)?;
+        Ok(Name::owned(room))
     }
 }
 
@@ -91,17 +147,13 @@ impl<'a> Given<'a> {
         }
     }
 
-    /// The name with these bytes. What is copied goes into the room of a former name.
+    /// The name with these bytes. What is copied goes into the room of a former name, or in place.
     pub(crate) fn into_name(self, alloc: Global, former: Name) -> Result<Name, NoMemory>
         ensures { IfOk result (λ name. name ≡ given_bytes self.entry) }
     {
         match self {
             Given::Lent(bytes) => Ok(Name::lent(bytes)),
-            Given::Copied(bytes) => {
-                let mut room = former.into_room(alloc);
-                room.fill(bytes)?;
-                Ok(Name::owned(room))
-            }
+            Given::Copied(bytes) => former.renamed(alloc, bytes),
         }
     }
 }

@@ -124,7 +124,7 @@ impl Table {
         ensures set { OnOk result (standing self.new ≡ set_pair (given_bytes name.entry) value.now (standing self.old)) }
         ensures unchanged { OnErr result (standing self.new ≡ standing self.old) }
     {
-        match self.place(name.get()) {
+        match self.next_place(name.get()) {
             Some(i) => self.write(i, value),
             None => self.insert(name, value),
         }

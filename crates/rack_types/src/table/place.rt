@@ -42,8 +42,8 @@ impl Table {
         ensures count { self.new.count ≡ self.old.count }
         ensures same { standing self.new ≡ standing self.old }
     {
-        if self.is_next(name) {
-            return Some(self.count);
+        if let Some(i) = self.next_place(name) {
+            return Some(i);
         }
         match self.entry_of(name) {
             Some(i) if i < self.count => Some(i),
@@ -65,17 +65,21 @@ impl Table {
         ensures brought { slice_get self.new.map.entries self.new.count ≡ slice_get self.old.map.entries i }
         ensures unique { IsUnique bytes_eq self.new.map }
     {
+        let _entries = self.map.len();
+        if i == self.count {
+            return;
+        }
         self.map.swap_indices(self.count, i);
     }
 
-    // Whether the first former pair has the name.
-    pub(super) fn is_next(&self, name: &[u8]) -> bool
-        ensures { IsTrue result → (self.now.count < index_map_len self.now.map) × IsFirstAt name.now self.now.map.entries self.now.count }
+    // The first place behind the pairs, where the former pair there has the name.
+    pub(super) fn next_place(&self, name: &[u8]) -> Option<usize>
+        ensures { IfSome result (λ i. (i ≤ self.now.count) × (i < index_map_len self.now.map) × IsFirstAt name.now self.now.map.entries i) }
     {
         let _entries = self.map.len();
         match self.map.get_index(self.count) {
-            Some((former, _)) => name == former.get(),
-            None => false,
+            Some((former, _)) if name == former.get() => Some(self.count),
+            _ => None,
         }
     }
 
@@ -120,9 +124,8 @@ impl Table {
         }
     }
 
-    // Puts a pair whose name isn't there behind the others, in the room of a former pair.
+    // Sets the value of a name, in the room of a former pair.
     pub(super) fn insert(&mut self, name: Given<'_>, value: &[u8]) -> Result<(), NoMemory>
-        requires { get_pair (given_bytes name) (standing self.old) ≡ None }
         ensures set { OnOk result (standing self.new ≡ set_pair (given_bytes name.entry) value.now (standing self.old)) }
         ensures unchanged { OnErr result (standing self.new ≡ standing self.old) }
     {
@@ -133,7 +136,7 @@ impl Table {
         self.put(name, room)
     }
 
-    // The last former pair, or none that has room.
+    // The last former pair, or one that has no room.
     pub(super) fn spare(&mut self) -> (Name, Bytes)
         ensures { standing self.new ≡ standing self.old }
     {
@@ -145,14 +148,16 @@ impl Table {
         }
     }
 
-    // Puts a pair whose name isn't there behind the others.
+    // Sets the value of a name: a new one goes behind the others.
     pub(super) fn put(&mut self, name: Name, value: Bytes) -> Result<(), NoMemory>
-        requires { get_pair name (standing self.old) ≡ None }
         ensures set { OnOk result (standing self.new ≡ set_pair name value (standing self.old)) }
         ensures unchanged { OnErr result (standing self.new ≡ standing self.old) }
     {
         let (i, _) = self.map.insert_full(name, value)?;
         let _entries = self.map.len();
+        if i < self.count {
+            return Ok(());
+        }
         self.bring(i);
         self.count += 1;
         Ok(())

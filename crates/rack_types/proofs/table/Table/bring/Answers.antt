@@ -1,6 +1,10 @@
-use Rattle.std.proofs.Common.{ap, ◌∙◌, take, slice_get}
+use Rattle.std.proofs.Common.{ap, ◌∙◌, sym, take, slice_get}
 use Rattle.rack_types.proofs.TableLemmas.{swap_keeps, swap_brings}
 use Rattle.rack_types.proofs.table.Table.bring.Goals as goal
+
+pub returns-then-i-self-clause-brought : goal.returns-then-i-self-clause-brought
+returns-then-i-self-clause-brought c =
+    ap (λ i. slice_get c.args.self.now.map.entries i) (sym c.if-i-self.true)
 
 pub returns-clause-same : goal.returns-clause-same
 returns-clause-same c =
