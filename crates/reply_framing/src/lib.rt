@@ -12,6 +12,8 @@ mod lint;
 mod pull;
 mod reason;
 mod start;
+#[cfg(test)]
+mod tests;
 mod types;
 mod watch;
 
