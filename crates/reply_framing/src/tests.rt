@@ -1,7 +1,9 @@
 // Whole replies by way of small rings.
 use crate::{After, Ask, Filled, Framer, put_fault};
 use circular_buffer::HeapCircularBuffer;
-use rack_types::{Answer, BodyRule, Bytes, Env, Fault, Headers, Input, Kind, NoMemory, Plain, Version};
+use rack_types::{
+    Answer, BodyRule, Bytes, Env, Fault, Headers, Input, Kind, NoMemory, Plain, Version,
+};
 use std::alloc::Global;
 
 fn crosses<T: Send + Drop>(_value: T) {}
@@ -174,7 +176,9 @@ fn frames_replies_in_any_room(rt: HostRuntime) -> Result<(), NoMemory> {
     let alloc = rt.alloc();
     for row in &ROWS {
         for room in [1, 7, 4096] {
-            let answer = answer_of(alloc, row.status, row.header, row.pieces, row.raises, row.known)?;
+            let answer = answer_of(
+                alloc, row.status, row.header, row.pieces, row.raises, row.known,
+            )?;
             let (text, told, after, hijacker) = reply_of(alloc, answer, room)?;
             assert_eq!(rt; text.as_slice(), row.reply.as_bytes());
             assert_eq!(rt; told, Some(row.told));
@@ -209,7 +213,10 @@ fn puts_faults(rt: HostRuntime) -> Result<(), NoMemory> {
     let mut ring = HeapCircularBuffer::with_capacity(alloc, 512)?;
     put_fault(Fault::F(10), &mut ring);
     let text = ring.to_vec(alloc)?;
-    assert_eq!(rt; text.as_slice(), "HTTP/1.1 501 Not Implemented\r\nx-puma-fault: F10\r\ncontent-length: 0\r\nconnection: close\r\n\r\n".as_bytes());
+    assert_eq!(rt;
+        text.as_slice(),
+        "HTTP/1.1 501 Not Implemented\r\nx-puma-fault: F10\r\ncontent-length: 0\r\nconnection: close\r\n\r\n".as_bytes()
+    );
     Ok(())
 }
 
