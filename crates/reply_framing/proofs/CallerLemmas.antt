@@ -1,5 +1,5 @@
 -- For callers: what a framer owes of a reply, over any filling and emptying of a ring.
-use Rattle.std.proofs.Common.{◌≡◌, ℕ, List, [], ◌∷◌, ◌++◌, refl, ap, sym, ◌∙◌, append_assoc, Option, None, Some, Result, Ok, Err}
+use Rattle.std.proofs.Common.{◌≡◌, ℕ, List, [], ◌++◌, refl, ap, sym, ◌∙◌, append_assoc, Option, Some, Result, Ok, Err}
 use Rattle.std.proofs.lemmas.List.{append-nil}
 use Rattle.std.specs.declared.alloc.AllocError.{AllocError}
 use Rattle.circular_buffer.specs.Buffer.{Buffer}
@@ -46,3 +46,11 @@ owes_fill f f' r sent result x y o s after hijacker = record {
 -- the whole reply was appended
 pub owes_done : {H : Type 0} (f : Coming H) (r : WholeReply H) (sent : List ℕ) → Owes f r sent → f.rest.bytes ≡ [] → r.bytes ≡ sent
 owes_done f r sent o none = o.bytes ∙ ap (λ w. sent ++ w) none ∙ append-nil sent
+
+-- behind a whole reply that broke no rule `after` is that of the reply
+pub after_done : {H : Type 0} (f : Coming H) (r : WholeReply H) (sent : List ℕ) → Owes f r sent → f.rest.rule ≡ None → f.after ≡ r.after
+after_done f r sent o none = sym (ap (λ w. body_after w f.after) (sym o.rule ∙ none)) ∙ o.after
+
+-- behind a break the reply's is Close
+pub after_broke : {H : Type 0} (f : Coming H) (r : WholeReply H) (sent : List ℕ) (rule : BodyRule) → Owes f r sent → f.rest.rule ≡ Some rule → r.after ≡ Close
+after_broke f r sent rule o broke = sym o.after ∙ ap (λ w. body_after w f.after) (sym o.rule ∙ broke)

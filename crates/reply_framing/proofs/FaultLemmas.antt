@@ -1,5 +1,5 @@
 -- Texts that are appended to a ring one behind the other.
-use Rattle.std.proofs.Common.{◌≡◌, ℕ, List, [], ◌∷◌, ◌++◌, refl, ap, sym, ◌∙◌, append_assoc, codes}
+use Rattle.std.proofs.Common.{◌≡◌, ℕ, List, ◌++◌, ap, sym, ◌∙◌, append_assoc, codes}
 use Rattle.circular_buffer.specs.Buffer.{Buffer, buffer}
 use Rattle.rack_types.specs.declared.fault.Fault.{Fault}
 use Rattle.reply_framing.specs.Fault.{fault_reply, fault_status, fault_name}

@@ -1,5 +1,5 @@
 -- A whole fill: appends and asks, one behind the other.
-use Rattle.std.proofs.Common.{◌≡◌, ℕ, ◌+◌, ◌-◌, ◌<◌, ◌≤◌, Bool, true, false, List, [], ◌∷◌, ◌++◌, length, refl, ap, sym, ◌∙◌, subst, arith, append_assoc, length-append, Option, None, Some, Ok, Err, inl, inr}
+use Rattle.std.proofs.Common.{◌≡◌, ℕ, ◌+◌, ◌<◌, false, List, [], ◌∷◌, ◌++◌, length, refl, ap, sym, ◌∙◌, subst, arith, append_assoc, length-append, Option, None, Some, Ok, Err, inl, inr}
 use Rattle.std.proofs.lemmas.List.{append-nil}
 use Rattle.std.specs.List.{concat}
 use Rattle.std.specs.declared.alloc.AllocError.{AllocError}
@@ -11,7 +11,7 @@ use Rattle.reply_framing.specs.declared.types.Filled.TheVariants.{Full, Done, Br
 use Rattle.reply_framing.specs.declared.types.Form.TheVariants.{Bare}
 use Rattle.reply_framing.specs.declared.pull.Pull.{Pull}
 use Rattle.reply_framing.specs.declared.pull.Stage.TheVariants.{Ended, Broken}
-use Rattle.reply_framing.specs.Body.{wire, body_bytes, rule_in}
+use Rattle.reply_framing.specs.Body.{wire, rule_in}
 use Rattle.reply_framing.specs.Coming.{Rest, Appends}
 use Rattle.reply_framing.specs.Fills.{Fills}
 use Rattle.reply_framing.specs.Framed.{pending, IsAllOrFull}

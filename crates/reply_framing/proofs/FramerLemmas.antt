@@ -5,7 +5,6 @@ use Rattle.rack_types.specs.declared.rules.BodyRule.{BodyRule}
 use Rattle.rack_types.specs.Body.{Content}
 use Rattle.reply_framing.specs.declared.types.After.{After}
 use Rattle.reply_framing.specs.declared.types.After.TheVariants.{Keep, Close, Hijack}
-use Rattle.reply_framing.specs.declared.types.Form.TheVariants.{Bare}
 use Rattle.reply_framing.specs.declared.pull.Pull.{Pull}
 use Rattle.reply_framing.specs.declared.pull.Stage.TheVariants.{Ended}
 use Rattle.reply_framing.specs.Body.{rule_in}

@@ -1,5 +1,5 @@
 -- A header by its place, and a length by its digits.
-use Rattle.std.proofs.Common.{◌≡◌, ℕ, ◌+◌, ◌-◌, ◌<◌, ◌≤◌, ◌^◌, Bool, true, false, not, cond, ◌&&◌, zero, suc, List, [], ◌∷◌, length, slice_get, nat_lt, bytes_eq, Option, Some, None, option_map, arith, ap, sym, ◌∙◌, refl, subst, inl, inr}
+use Rattle.std.proofs.Common.{◌≡◌, ℕ, ◌+◌, ◌<◌, ◌≤◌, ◌^◌, Bool, true, false, not, cond, ◌&&◌, suc, List, [], ◌∷◌, length, slice_get, nat_lt, bytes_eq, Some, None, arith, ap, sym, ◌∙◌, refl, subst, inl, inr}
 use Rattle.std.specs.Prelude.{if◌then◌else◌}
 use Rattle.std.specs.List.{prefix_len}
 use Rattle.std.proofs.lemmas.Bool.{and_parts, and_cases, and_left, and_right, lt-ltb, le-ltb, ltb-true, ltb-false}

@@ -1,5 +1,5 @@
 -- One ask of the body.
-use Rattle.std.proofs.Common.{◌≡◌, ℕ, ◌+◌, ◌<◌, ◌≤◌, Bool, true, false, List, [], ◌∷◌, ◌++◌, length, drop, refl, ap, sym, ◌∙◌, arith, Option, None, Some, inl, inr}
+use Rattle.std.proofs.Common.{◌≡◌, ℕ, ◌<◌, Bool, true, false, List, [], ◌++◌, length, drop, refl, ap, sym, ◌∙◌, arith, Option, None, Some, inl, inr}
 use Rattle.std.specs.Prelude.{if◌then◌else◌, codes}
 use Rattle.std.proofs.lemmas.List.{append-nil, drop_all}
 use Rattle.std.proofs.lemmas.Bool.{ltb-true}
@@ -10,12 +10,11 @@ use Rattle.rack_types.specs.BodyRules.{body_rule, breaks_B1, left_behind, end_ru
 use Rattle.reply_framing.specs.declared.framed.Framed.{Framed}
 use Rattle.reply_framing.specs.declared.types.Form.{Form}
 use Rattle.reply_framing.specs.declared.types.Form.TheVariants.{Bare}
-use Rattle.reply_framing.specs.declared.pull.Pull.{Pull}
 use Rattle.reply_framing.specs.declared.pull.Stage.{Stage}
-use Rattle.reply_framing.specs.declared.pull.Stage.TheVariants.{Pulling, Ended, Broken}
+use Rattle.reply_framing.specs.declared.pull.Stage.TheVariants.{Pulling, Broken}
 use Rattle.reply_framing.specs.Body.{wire, body_bytes, rule_in}
 use Rattle.reply_framing.specs.Framed.{pending, IsClear}
-use Rattle.reply_framing.specs.Pull.{TakesOne, TakesNext, EndsSo, content_of, lent, rest_of, asks_left, later_by, rule_by, steps_by, stage_of, last_by}
+use Rattle.reply_framing.specs.Pull.{TakesOne, content_of, lent, rest_of, asks_left, later_by, rule_by, steps_by, stage_of, last_by}
 use Rattle.reply_framing.proofs.AppendLemmas.{keep_none}
 use Rattle.reply_framing.proofs.BodyLemmas.{body_more, rule_more, body_stops, rule_stops, body_end, rule_end}
 

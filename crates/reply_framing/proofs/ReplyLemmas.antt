@@ -1,12 +1,11 @@
 -- The reply to a broken answer, and what a framer stands for.
-use Rattle.std.proofs.Common.{◌≡◌, ℕ, Bool, true, false, not, ◌||◌, List, [], ◌∷◌, ◌++◌, Option, None, Some, refl, ap, sym, ◌∙◌, append_assoc}
-use Rattle.std.specs.Prelude.{if◌then◌else◌, codes, decimal}
+use Rattle.std.proofs.Common.{◌≡◌, ℕ, Bool, true, false, List, [], ◌++◌, None, refl, ap, sym, ◌∙◌, append_assoc}
+use Rattle.std.specs.Prelude.{codes, decimal}
 use Rattle.std.proofs.lemmas.List.{append-nil}
 use Rattle.rack_types.specs.declared.limits.Version.{Version}
 use Rattle.rack_types.specs.declared.rules.Rule.{Rule}
 use Rattle.rack_types.specs.BodyRules.{body_break}
 use Rattle.reply_framing.specs.declared.types.After.{After}
-use Rattle.reply_framing.specs.declared.types.After.TheVariants.{Keep, Close}
 use Rattle.reply_framing.specs.declared.types.Ask.{Ask}
 use Rattle.reply_framing.specs.declared.types.Form.TheVariants.{Bare}
 use Rattle.reply_framing.specs.Coming.{Coming}
@@ -14,7 +13,7 @@ use Rattle.reply_framing.specs.Form.{connection_line}
 use Rattle.reply_framing.specs.Framer.{broken_after}
 use Rattle.reply_framing.specs.Head.{crlf, status_line, header_lines}
 use Rattle.reply_framing.specs.Owes.{StandsFor}
-use Rattle.reply_framing.specs.Reply.{WholeReply, body_after, broken_reply, broken_headers, head_text}
+use Rattle.reply_framing.specs.Reply.{body_after, broken_reply, broken_headers, head_text}
 
 -- the head in the place of that of a broken answer
 abbrev pub broken_text : Rule → After → Version → List ℕ

@@ -7,7 +7,6 @@ use Rattle.rack_text.specs.Lists.{elements}
 use Rattle.rack_types.specs.declared.answer.Answer.{Answer}
 use Rattle.rack_types.specs.declared.answer.Answer.TheVariants as answer
 use Rattle.rack_types.specs.declared.body.Kind.TheVariants.{Enumerable}
-use Rattle.rack_types.specs.declared.limits.Version.{Version}
 use Rattle.rack_types.specs.declared.limits.Version.TheVariants.{Http10, Http11}
 use Rattle.rack_types.specs.Body.{Content}
 use Rattle.rack_types.specs.Env.{Pairs}

@@ -1,6 +1,6 @@
 -- How a reply tells the length of its body, and what becomes of the connection (RFC 9112, sections 6 and 9).
 -- The order of the forms, and that a status below 200 closes, are this project's own.
-use Rattle.std.specs.Prelude.{ℕ, nat_lt, Bool, true, false, not, ◌||◌, if◌then◌else◌, List, [], ◌∷◌, ◌++◌, codes, decimal, Option, Some, None}
+use Rattle.std.specs.Prelude.{ℕ, nat_lt, Bool, true, false, not, ◌||◌, if◌then◌else◌, List, [], ◌++◌, codes, decimal, Option, Some, None}
 use Rattle.std.specs.List.{list_any}
 use Rattle.rack_text.specs.Lists.{list_has}
 use Rattle.rack_types.specs.declared.limits.Version.{Version}

@@ -7,12 +7,12 @@ ghost use Rattle.reply_framing.specs.Fills.{Fills, after_then};
 ghost use Rattle.reply_framing.specs.Owes.{StandsFor, AsksNothingBy, is_sure};
 ghost use Rattle.reply_framing.specs.Reply.{reply};
 
-use crate::lint::{check_head, check_taken};
 use crate::pull::Pull;
 use crate::start::{broken, partial, taken, with_body};
 use crate::types::{After, Ask, Filled};
 use circular_buffer::HeapCircularBuffer;
-use rack_types::{Answer, Body, Env, NoMemory, Rule, Set};
+use lint_core::{Set, check_head, check_taken};
+use rack_types::{Answer, Body, Env, NoMemory, Rule};
 use std::alloc::Global;
 use std::marker::Model;
 
@@ -54,7 +54,6 @@ impl<B: Body, H: Drop> Framer<B, H> {
         answer: Answer<B, H>,
         last: bool,
     ) -> Result<Framer<B, H>, NoMemory>
-        requires keeps { broken_rule Server env.now.pairs (told B.content answer) ≡ None }
         ensures stands { IfOk result (λ f. StandsFor f (reply ask env.now.pairs (told B.content answer) last)) }
         ensures asked { IfOk result (λ f. AsksNothingBy (broken_rule Server env.now.pairs (told B.content answer)) ask (told B.content answer) f.rest) }
         ensures sure { IfOk result (λ f. IsTrue (is_sure (told B.content answer)) → f.rest.sure ≡ true) }

@@ -123,7 +123,12 @@ fn write_header(
 }
 
 // One line for each value of the header at this place.
-fn write_values(headers: &Headers, i: usize, name: &[u8], head: &mut Vec<u8>) -> Result<(), NoMemory>
+fn write_values(
+    headers: &Headers,
+    i: usize,
+    name: &[u8],
+    head: &mut Vec<u8>,
+) -> Result<(), NoMemory>
     requires { i < length headers.now }
     ensures text { OnOk result (head.new.items ≡ head.old.items ++ flat_map (value_line name.now) (values_at i headers.now)) }
     ensures room { OnOk result (vec_capacity head.old ≤ vec_capacity head.new) }
@@ -150,7 +155,8 @@ fn write_value(name: &[u8], value: &[u8], head: &mut Vec<u8>) -> Result<(), NoMe
 fn is_left_out(part: bool, name: &[u8]) -> bool
     ensures { result ≡ is_left_out part name.now }
 {
-    name.starts_with(b"rack.") || name == b"transfer-encoding".as_slice()
+    name.starts_with(b"rack.")
+        || name == b"transfer-encoding".as_slice()
         || (!part && name == b"connection".as_slice())
 }
 

@@ -8,12 +8,12 @@ mod framed;
 mod framer;
 mod head;
 mod hex;
-mod lint;
 mod pull;
 mod reason;
 mod start;
+#[cfg(test)]
+mod tests;
 mod types;
-mod watch;
 
 pub use fault::put_fault;
 pub use framer::Framer;

@@ -11,8 +11,8 @@ ghost use Rattle.reply_framing.specs.PullOrder.{AskedNothing};
 
 use crate::framed::Framed;
 use crate::types::{Filled, Form};
-use crate::watch::BodyWatch;
 use circular_buffer::HeapCircularBuffer;
+use lint_core::BodyWatch;
 use rack_types::{Body, BodyRule, NoMemory, Step};
 
 /// What is known of the body's end.

@@ -107,10 +107,7 @@ fn broken_after(ask: Ask, last: bool) -> After
 }
 
 // No bytes, where the application took the connection.
-pub(crate) fn taken<B: Body, H: Drop>(
-    alloc: Global,
-    hijacker: H,
-) -> Result<Framer<B, H>, NoMemory>
+pub(crate) fn taken<B: Body, H: Drop>(alloc: Global, hijacker: H) -> Result<Framer<B, H>, NoMemory>
     ensures stands { IfOk result (λ f. StandsFor f (taken_reply hijacker)) }
     ensures asked { IfOk result (λ f. AskedNothing f.rest Form.Bare None [] false) }
     ensures sure { IfOk result (λ f. f.rest.sure ≡ true) }

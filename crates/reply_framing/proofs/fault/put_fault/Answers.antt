@@ -1,4 +1,4 @@
-use Rattle.std.proofs.Common.{◌≡◌, ◌++◌, ap, ◌∙◌, codes}
+use Rattle.std.proofs.Common.{◌++◌, ap, ◌∙◌, codes}
 use Rattle.circular_buffer.specs.Buffer.{buffer}
 use Rattle.reply_framing.specs.Fault.{fault_status, fault_name}
 use Rattle.reply_framing.specs.Head.{status_line}

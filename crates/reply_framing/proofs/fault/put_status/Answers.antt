@@ -1,5 +1,5 @@
-use Rattle.std.proofs.Common.{◌≡◌, ◌++◌, ap, ◌∙◌, codes, decimal, List, ℕ}
-use Rattle.circular_buffer.specs.Buffer.{Buffer, buffer}
+use Rattle.std.proofs.Common.{◌≡◌, ◌++◌, ap, ◌∙◌, codes, decimal}
+use Rattle.circular_buffer.specs.Buffer.{buffer}
 use Rattle.reply_framing.specs.Reason.{reason}
 use Rattle.reply_framing.proofs.FaultLemmas.{puts}
 use Rattle.reply_framing.proofs.fault.put_status.Goals as goal

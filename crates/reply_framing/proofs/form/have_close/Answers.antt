@@ -1,4 +1,4 @@
-use Rattle.std.proofs.Common.{◌≡◌, sym, ◌∙◌}
+use Rattle.std.proofs.Common.{sym, ◌∙◌}
 use Rattle.rack_types.specs.Headers.{values_at}
 use Rattle.reply_framing.specs.Form.{has_close}
 use Rattle.reply_framing.proofs.LineLemmas.{any_here, any_more}

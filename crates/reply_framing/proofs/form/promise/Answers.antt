@@ -1,4 +1,4 @@
-use Rattle.std.proofs.Common.{◌≡◌, ap, sym, ◌∙◌, codes}
+use Rattle.std.proofs.Common.{ap, sym, ◌∙◌, codes}
 use Rattle.rack_types.specs.AnswerRules.{stated_length}
 use Rattle.reply_framing.proofs.PlaceLemmas.{place_values, place_none}
 use Rattle.reply_framing.proofs.form.promise.Goals as goal

@@ -1,4 +1,4 @@
-use Rattle.std.proofs.Common.{◌≡◌, ap, sym, ◌∙◌, codes}
+use Rattle.std.proofs.Common.{ap, sym, ◌∙◌, codes}
 use Rattle.reply_framing.specs.Form.{have_close}
 use Rattle.reply_framing.proofs.PlaceLemmas.{place_values, place_none}
 use Rattle.reply_framing.proofs.form.wants_close.Goals as goal

@@ -1,4 +1,4 @@
-use Rattle.std.proofs.Common.{◌≡◌, ◌≤◌, ◌++◌, arith}
+use Rattle.std.proofs.Common.{◌++◌, arith}
 use Rattle.rack_types.specs.Headers.{values_at}
 use Rattle.reply_framing.specs.Head.{header_line, header_lines}
 use Rattle.reply_framing.proofs.LineLemmas.{header_at, text_more}

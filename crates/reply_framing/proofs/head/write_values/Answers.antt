@@ -1,4 +1,4 @@
-use Rattle.std.proofs.Common.{◌≡◌, ◌≤◌, ◌++◌, arith}
+use Rattle.std.proofs.Common.{◌++◌, arith}
 use Rattle.rack_types.specs.Headers.{values_at}
 use Rattle.reply_framing.specs.Head.{value_line}
 use Rattle.std.specs.List.{flat_map}

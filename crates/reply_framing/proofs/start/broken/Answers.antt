@@ -1,4 +1,4 @@
-use Rattle.std.proofs.Common.{◌≡◌, refl, ◌∙◌}
+use Rattle.std.proofs.Common.{refl, ◌∙◌}
 use Rattle.reply_framing.proofs.ReplyLemmas.{broken_stands}
 use Rattle.reply_framing.proofs.start.broken.Goals as goal
 

@@ -1,4 +1,4 @@
-use Rattle.std.proofs.Common.{◌≡◌, ◌<◌, arith, refl, ap, sym, ◌∙◌}
+use Rattle.std.proofs.Common.{◌≡◌, ◌<◌, ◌∙◌}
 use Rattle.std.proofs.lemmas.Result.{err_from_is_err_and}
 use Rattle.reply_framing.specs.declared.types.Form.TheVariants.{Bare}
 use Rattle.reply_framing.specs.declared.pull.Stage.TheVariants.{Pulling, Ended}

@@ -1,12 +1,11 @@
-use Rattle.std.proofs.Common.{◌≡◌, ap, sym, ◌∙◌, subst, length}
+use Rattle.std.proofs.Common.{◌≡◌, ap, sym, ◌∙◌, subst}
 use Rattle.std.specs.Prelude.{Ok}
 use Rattle.rack_types.specs.BodyRules.{body_rule, breaks_B1, left_behind}
 use Rattle.reply_framing.specs.declared.types.Form.TheVariants.{Bare}
 use Rattle.reply_framing.specs.declared.pull.Asked.{Asked}
 use Rattle.reply_framing.specs.declared.pull.Asked.TheVariants.{Piece, End}
-use Rattle.reply_framing.specs.declared.pull.Pull.{Pull}
 use Rattle.reply_framing.specs.declared.pull.Stage.TheVariants.{Pulling, Ended}
-use Rattle.reply_framing.specs.Pull.{AsksTo, EndsSo, content_of, lent}
+use Rattle.reply_framing.specs.Pull.{AsksTo, content_of, lent}
 use Rattle.reply_framing.proofs.PullLemmas.{watch_none, watch_some, if_false, takes_piece, stops_at_piece, takes_end}
 use Rattle.reply_framing.proofs.pull.Pull.pull.Goals as goal
 
