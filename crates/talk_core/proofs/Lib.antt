@@ -1,5 +1,8 @@
+pub mod CallerLemmas
+mod ChunkedLemmas
 mod CompareLemmas
 mod EndedLemmas
+mod LawLemmas
 mod RetellLemmas
 mod StandsLemmas
 mod TalkLemmas

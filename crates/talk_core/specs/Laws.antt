@@ -3,6 +3,7 @@ use Rattle.std.specs.Prelude.{◌≡◌, ◌≢◌, ℕ, ◌<◌, ◌≤◌, Boo
 use Rattle.std.specs.List.{concat}
 use Rattle.rack_types.specs.Request.{Parts}
 use Rattle.rack_types.specs.Limits.{stock_limits}
+use Rattle.hijack_core.specs.Said.{Starts}
 use Rattle.message_framing.specs.Chunks.{ChunksAt}
 use Rattle.reply_framing.specs.declared.types.After.TheVariants.{Keep}
 use Rattle.reply_framing.specs.declared.types.Form.TheVariants as form
@@ -24,10 +25,6 @@ abbrev pub Stays : Fates → List ℕ → List ℕ → Type 0
 Stays fates given more =
     (asked : List Parts) (stop : Stop) (rest : List ℕ) → IsFinal stop → Talk fates given asked stop rest
     → Talk fates (given ++ more) asked stop (rest ++ more)
-
--- xs begins ys
-abbrev pub Starts : List ℕ → List ℕ → Type 0
-Starts xs ys = (rest : List ℕ) × (ys ≡ xs ++ rest)
 
 -- the last of these requests hands the connection to this hijacker
 pub record HandsTo {H : Type 0} (T : Teller H) (asked : List Parts) (h : H) : Type 0 where
