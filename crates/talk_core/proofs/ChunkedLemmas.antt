@@ -18,24 +18,33 @@ use Rattle.reply_framing.specs.declared.types.Form.TheVariants.{Chunked}
 use Rattle.reply_framing.specs.Body.{chunk, wire, last_bytes, bytes_until, body_bytes}
 use Rattle.talk_core.specs.Laws.{IsChunkedBody, AreReadAgain}
 
+-- either list is short enough
+few_if : (t : Bool) (xs ys : List ℕ) (m : ℕ) → length xs ≤ m → (t ≡ false → length ys ≤ m) → length (if t then xs else ys) ≤ m
+few_if true xs ys m a b = a
+few_if false xs ys m a b = b refl
+
+above_zero : (m : ℕ) → (m == 0) ≡ false → 0 < m
+above_zero zero e = cc
+above_zero (suc m) e = omega arith
+
+some_power : (j m : ℕ) → m < 16 ^ j → 0 < m → 0 < j
+some_power zero m less some = absurd (omega (arith, less, some))
+some_power (suc j) m less some = omega arith
+
+sixteenth : (j n : ℕ) → n < 16 ^ suc j → n / 16 < 16 ^ j
+sixteenth j n small = omega (arith, pow-suc 16 j, small)
+
 -- a number below 16 ^ j has at most j digits
 digits_few : (j k n : ℕ) (acc : List ℕ) → 0 < j → n < 16 ^ j → length (digits_onto k 16 false n acc) ≤ j + length acc
 digits_few zero k n acc some small = absurd (omega (arith, some))
 digits_few (suc j) zero n acc some small = omega arith
-digits_few (suc j) (suc k) n acc some small = by (n / 16 == 0) refl
-  where
-    g : ℕ
-    g = digit_glyph false (n % 16)
-
-    by : (t : Bool) → (n / 16 == 0) ≡ t → length (if t then g ∷ acc else digits_onto k 16 false (n / 16) (g ∷ acc)) ≤ suc j + length acc
-    by true e = omega arith
-    by false e = go j (omega (arith, pow-suc 16 j, small))
-      where
-        go : (i : ℕ) → n / 16 < 16 ^ i → length (digits_onto k 16 false (n / 16) (g ∷ acc)) ≤ suc i + length acc
-        go zero less =
-            let none : n / 16 ≡ 0 = omega (arith, less) in
-            absurd (let same : (n / 16 == 0) ≡ true = grind (arith, nat_tests) in cc)
-        go (suc i) less = omega (arith, digits_few (suc i) k (n / 16) (g ∷ acc) (omega arith) less)
+digits_few (suc j) (suc k) n acc some small =
+    few_if (n / 16 == 0) (digit_glyph false (n % 16) ∷ acc) (digits_onto k 16 false (n / 16) (digit_glyph false (n % 16) ∷ acc)) (suc j + length acc)
+    (omega arith)
+    (λ e. let less : n / 16 < 16 ^ j = sixteenth j n small in
+    let few : length (digits_onto k 16 false (n / 16) (digit_glyph false (n % 16) ∷ acc)) ≤ j + suc (length acc) =
+    digits_few j k (n / 16) (digit_glyph false (n % 16) ∷ acc) (some_power j (n / 16) less (above_zero (n / 16) e)) less in
+    omega (arith, few))
 
 -- the digits of a chunk's size
 pub record IsSize (ds : List ℕ) (n : ℕ) : Type 0 where
@@ -111,13 +120,13 @@ module _ (ds : List ℕ) (n : ℕ) (is : IsSize ds n) where
   -- a size line with this size, and then
   sized_front : (sum : ℕ) (rest : List ℕ) (front : Front) → SizeFront sum (length (ds ++ 13 ∷ 10 ∷ [])) n rest front
       → FrontIs sum ((ds ++ 13 ∷ 10 ∷ []) ++ rest) front
-  sized_front sum rest front then =
+  sized_front sum rest front sized =
       let line : List ℕ = ds ++ 13 ∷ 10 ∷ [] in
       subst (λ (o : Option ℕ). LineFront o sum ((ds ++ 13 ∷ 10 ∷ []) ++ rest) front) (sym (line_within rest))
       (inr (
         n,
         subst (λ (l : List ℕ). NamesSize l n) (sym (take-append_seam (ds ++ 13 ∷ 10 ∷ []) rest)) names,
-        subst (λ (r : List ℕ). SizeFront sum (length (ds ++ 13 ∷ 10 ∷ [])) n r front) (sym (drop-append_seam (ds ++ 13 ∷ 10 ∷ []) rest)) then,
+        subst (λ (r : List ℕ). SizeFront sum (length (ds ++ 13 ∷ 10 ∷ [])) n r front) (sym (drop-append_seam (ds ++ 13 ∷ 10 ∷ []) rest)) sized,
       ))
 
 otherwise : (b : Bool) (P Q : Type 0) → b ≡ false → Q → MatchBool b P Q
