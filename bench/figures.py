@@ -4,6 +4,9 @@ few and with many fields, with and without the environment, and for bodies by le
 Instructions are counted by callgrind and are repeatable: over the whole run of the program from its
 start, or of one function with all that it calls. Times are those of this machine, from starting the
 program until it has ended.
+
+What is wanted is compared with what was found. The last line counts both, and the status is 0 only where
+something was compared and all of it is as wanted.
 """
 
 import os
@@ -32,6 +35,12 @@ WAYS = ((WHOLE, None), ("byte by byte", 1))
 PIECES = {WHOLE: None, "in pieces of 16,384 bytes": 16384, "in pieces of 7 bytes": 7, "byte by byte": 1}
 RUNS = 40
 SECONDS = 5
+# What is wanted at most: growth of instructions at four times the bytes and at eight times the fields, and milliseconds.
+MOST_GROWTH = 4.40
+MOST_FOR_FIELDS = 9
+MOST_TIME = 10
+# Each figure that was compared: its name, what was found and what is wanted at most.
+compared = []
 
 
 def long_head(size):
@@ -158,10 +167,11 @@ def body_figures():
             for size in (64, 256):
                 count(f"{size} KiB {kind}", made(size * KIB), way, size * KIB)
             grown.append((kind, way, counts[f"256 KiB {kind}", way] / counts[f"64 KiB {kind}", way]))
-    print("\n| growth from 64 KiB to 256 KiB, at most 4.40 is wanted | comes | instructions |")
+    print(f"\n| growth from 64 KiB to 256 KiB, at most {MOST_GROWTH:.2f} is wanted | comes | instructions |")
     print("|---|---|--:|")
     for kind, way, times_as_many in grown:
         print(f"| {kind} | {way} | {times_as_many:.2f} times |")
+        compared.append((f"growth of a body {kind}, {way}", times_as_many, MOST_GROWTH))
 
 
 def without_environment(text):
@@ -194,11 +204,14 @@ def main():
                 counted = f"{counts[name, way]:,}"
             print(f"| {name} | {way} | {counted} | {min(taken):.2f} | {statistics.median(taken):.2f} |", flush=True)
 
-    print("\n| growth from 8 KiB to 32 KiB | instructions, at most 4.40 is wanted | best time |")
+    print(f"\n| growth from 8 KiB to 32 KiB | instructions, at most {MOST_GROWTH:.2f} is wanted | best time |")
     print("|---|--:|--:|")
     for way, _ in WAYS:
         few, many = ("head of 8 KiB", way), ("head of 32 KiB", way)
-        grown = f"{counts[many] / counts[few]:.2f} times" if can_count else "not counted"
+        grown = "not counted"
+        if can_count:
+            grown = f"{counts[many] / counts[few]:.2f} times"
+            compared.append((f"growth of a head, {way}", counts[many] / counts[few], MOST_GROWTH))
         print(f"| {way} | {grown} | {best[many] / best[few]:.2f} times |")
 
     empty = instructions(b"", None) if can_count else 0
@@ -214,19 +227,33 @@ def main():
     if can_count:
         print("\nThe environment is the difference to the same head as a HEAD, which is answered without one; it holds")
         print("the difference of the two replies too, the same for each head.")
-        print("\n| growth of the environment from 8 to 64 fields, at most 9 times is wanted | instructions |")
+        print(f"\n| growth of the environment from 8 to 64 fields, at most {MOST_FOR_FIELDS} times is wanted | instructions |")
         print("|---|--:|")
         for names in ("names that differ", "one name"):
-            print(f"| {names} | {made['64 fields, ' + names] / made['8 fields, ' + names]:.2f} times |")
+            grown = made['64 fields, ' + names] / made['8 fields, ' + names]
+            print(f"| {names} | {grown:.2f} times |")
+            compared.append((f"growth of the environment, {names}", grown, MOST_FOR_FIELDS))
 
         body_figures()
 
-    print("\n| starting and answering the short request, less than 10 ms is wanted | best time, ms | middle time, ms |")
+    print(f"\n| starting and answering the short request, at most {MOST_TIME} ms is wanted | best time, ms | middle time, ms |")
     print("|---|--:|--:|")
     for name, command in (("the program", PROGRAM), ("through `bin/puma`", PUMA)):
         taken = times([command, "once", STACK], GET, None)
         print(f"| {name} | {min(taken):.2f} | {statistics.median(taken):.2f} |")
+        compared.append((f"starting {name}", min(taken), MOST_TIME))
+    return verdict()
+
+
+def verdict():
+    """Says of each figure that is not as wanted, and how many are, and gives the status."""
+    missed = [(name, found, most) for name, found, most in compared if not found <= most]
+    print()
+    for name, found, most in missed:
+        print(f"NOT AS WANTED: {name}: {found:.2f}, and at most {most:.2f} is wanted")
+    print(f"{len(compared) - len(missed)} as wanted, {len(missed)} not as wanted")
+    return 1 if missed or not compared else 0
 
 
 if __name__ == "__main__":
-    main()
+    sys.exit(main())

@@ -6,18 +6,19 @@ mod read_source;
 mod real_files;
 #[cfg(test)]
 mod temporary;
+mod words;
 mod write_sink;
 
 use puma_top::{FileWhy, Status, run_quiet};
 use read_source::ReadSource;
 use real_files::RealFiles;
+use std::io;
 use std::io::ErrorKind;
 use std::process::ExitCode;
-use std::{env, io, rt};
 use write_sink::WriteSink;
 
 fn main(rt: HostRuntime) -> ExitCode {
-    let status = match words(&rt) {
+    let status = match words::behind_name(&rt) {
         Ok(words) => {
             let mut files = RealFiles::new(&rt);
             let mut source = ReadSource::new(rt.stdin());
@@ -36,15 +37,6 @@ fn main(rt: HostRuntime) -> ExitCode {
     // Where standard error takes nothing either, the exit status alone tells.
     let _ = report(&rt, &status);
     ExitCode::from(status.code())
-}
-
-/// The words behind the program's name. One that is no text makes all of them an error.
-fn words<R: rt::Env + AllocGlobal>(runtime: &R) -> io::Result<Vec<String>> {
-    let mut words = Vec::new(runtime.alloc());
-    for word in env::args(runtime)?.skip(1) {
-        words.push(word)?;
-    }
-    Ok(words)
 }
 
 /// One line on standard error for each answer but Done.

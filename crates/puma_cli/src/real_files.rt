@@ -3,7 +3,7 @@ ghost use Rattle.std.specs.Prelude.{◌≡◌, None};
 
 use rack_outside::{FileRead, Files};
 use rack_types::{Bytes, NoMemory};
-use std::alloc::AllocError;
+use std::alloc::{AllocError, Global};
 use std::fs::File;
 use std::io::{ErrorKind, Read};
 use std::{io, rt};
@@ -34,7 +34,7 @@ impl<R: rt::Files + AllocGlobal> Files for RealFiles<R> {
     ghost faults = { λ files. files.faults };
 
     fn read(&mut self, name: &str, limit: usize) -> Result<FileRead, NoMemory> {
-        match read_past(&self.runtime, name, limit) {
+        match open_and_read(&self.runtime, name, limit) {
             Ok(text) if text.len() > limit => Ok(FileRead::Long),
             Ok(text) => Ok(FileRead::Text(Bytes::new(text))),
             Err(e) => match e.kind() {
@@ -49,15 +49,21 @@ impl<R: rt::Files + AllocGlobal> Files for RealFiles<R> {
     }
 }
 
-/// The file's text, or, where it has more bytes than the limit, one byte more than that.
-fn read_past<R: rt::Files + AllocGlobal>(
+/// The text of the file of this name, as `read_past` gives it.
+fn open_and_read<R: rt::Files + AllocGlobal>(
     runtime: &R,
     name: &str,
     limit: usize,
 ) -> io::Result<Vec<u8>> {
-    let file = File::open(runtime, name)?;
-    let mut text = Vec::new(runtime.alloc());
-    file.take((limit as u64).saturating_add(1))
+    read_past(runtime.alloc(), File::open(runtime, name)?, limit)
+}
+
+/// The reader's whole text, or, where it has more bytes than the limit, one byte more than that.
+/// A read that fails fails the whole, whatever came before it.
+fn read_past<R: Read + Drop>(alloc: Global, reader: R, limit: usize) -> io::Result<Vec<u8>> {
+    let mut text = Vec::new(alloc);
+    reader
+        .take((limit as u64).saturating_add(1))
         .read_to_end(&mut text)?;
     Ok(text)
 }
@@ -67,6 +73,7 @@ mod tests {
     use super::*;
     use crate::temporary;
     use std::fs;
+    use std::io::Error;
     use std::test::Fail;
 
     #[test]
@@ -89,6 +96,51 @@ mod tests {
         // A folder can be opened and can't be read.
         assert!(rt; matches!(files.read("/", 5)?, FileRead::Failed));
         assert_eq!(rt; files.faults, 1);
+        Ok(())
+    }
+
+    // Gives so many bytes, one at a time, with an interruption in front of each, and then ends or fails.
+    #[derive(Drop)]
+    struct Slow {
+        left: u8,
+        is_interrupted: bool,
+        fails: bool,
+    }
+
+    impl Read for Slow {
+        fn read(&mut self, buf: &mut [u8]) -> io::Result<usize> {
+            self.is_interrupted = !self.is_interrupted;
+            if self.is_interrupted {
+                return Err(Error::from(ErrorKind::Interrupted));
+            }
+            if buf.is_empty() || (self.left == 0 && !self.fails) {
+                return Ok(0);
+            }
+            if self.left == 0 {
+                return Err(Error::from(ErrorKind::ConnectionReset));
+            }
+            self.left -= 1;
+            buf[0] = b'x';
+            Ok(1)
+        }
+    }
+
+    fn giving(left: u8, fails: bool) -> Slow {
+        Slow {
+            left,
+            is_interrupted: false,
+            fails,
+        }
+    }
+
+    #[test]
+    fn reads_to_the_end_or_fails(rt: HostRuntime) -> Result<(), Fail> {
+        let whole = read_past(rt.alloc(), giving(3, false), 5)?;
+        assert_eq!(rt; whole.as_slice(), b"xxx".as_slice());
+        let past = read_past(rt.alloc(), giving(9, false), 5)?;
+        assert_eq!(rt; past.len(), 6);
+        assert!(rt; read_past(rt.alloc(), giving(3, true), 5).is_err());
+        assert!(rt; read_past(rt.alloc(), giving(0, true), 5).is_err());
         Ok(())
     }
 }

@@ -10,7 +10,8 @@ use Rattle.std.proofs.lemmas.List.Sums.{prefix_len_passes}
 use Rattle.std.proofs.lemmas.List.Quantifiers.{position-Some}
 use Rattle.std.proofs.lemmas.Slice.Eq.{bytes_eq-Decides}
 use Rattle.std.proofs.Math.Seq.{split_at}
-use Rattle.rack_outside.specs.Cabinet.{texts_under, AnswersText}
+use Rattle.rack_outside.specs.Cabinet.{texts_under}
+use Rattle.rack_outside.specs.OneText.{AnswersText}
 use Rattle.rack_outside.specs.Files.{Turns, AnswersFrom, IsTurning, Shelf}
 use Rattle.rack_outside.specs.declared.files.FileRead.{FileRead}
 use Rattle.rack_outside.specs.declared.files.FileRead.TheVariants.{Text, Absent, Long, Failed}

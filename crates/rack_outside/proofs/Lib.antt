@@ -1,3 +1,3 @@
 mod CabinetLemmas
-mod FeedLemmas
 mod LinkLemmas
+mod SupplyLemmas

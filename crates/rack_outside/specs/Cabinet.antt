@@ -1,8 +1,7 @@
 -- What files in memory hold: texts under names, in the order in which they were added.
-use Rattle.std.specs.Prelude.{◌≡◌, ℕ, ◌<◌, ◌≤◌, List, length, map, filter}
+use Rattle.std.specs.Prelude.{ℕ, List, map, filter}
 use Rattle.std.specs.Str.{bytes_eq}
 use Rattle.rack_outside.specs.declared.files.FileRead.{FileRead}
-use Rattle.rack_outside.specs.declared.files.FileRead.TheVariants.{Text, Absent, Long, Failed}
 
 -- each text with its name, and the names of the reads with their answers
 pub record Cabinet : Type 0 where
@@ -12,10 +11,3 @@ pub record Cabinet : Type 0 where
 -- the texts under a name, in order
 abbrev pub texts_under : List (List ℕ × List ℕ) → List ℕ → List (List ℕ)
 texts_under texts name = map (λ held. held.1) (filter (λ held. bytes_eq held.0 name) texts)
-
--- the answer that one text gives
-abbrev pub AnswersText : FileRead → ℕ → List ℕ → Type 0
-AnswersText (Text answered) limit text = (length text ≤ limit) × (answered ≡ text)
-AnswersText Absent limit text = ⊥
-AnswersText Long limit text = limit < length text
-AnswersText Failed limit text = ⊥

@@ -1,9 +1,10 @@
 pub mod Cabinet
-pub mod Feed
 pub mod Files
 pub mod Link
+pub mod OneText
 pub mod Sink
 pub mod Source
+pub mod Supply
 pub mod Told
 pub mod Tray
 pub mod Wire

@@ -1,7 +1,8 @@
 // Files in memory.
 ghost use Rattle.std.specs.Prelude.{◌≡◌, ◌≢◌, ◌≤◌, ◌++◌, [], ◌∷◌, ℕ, List, Some, OnOk, OnErr, IfOk, position};
 ghost use Rattle.std.specs.Str.{bytes_eq};
-ghost use Rattle.rack_outside.specs.Cabinet.{texts_under, AnswersText};
+ghost use Rattle.rack_outside.specs.Cabinet.{texts_under};
+ghost use Rattle.rack_outside.specs.OneText.{AnswersText};
 ghost use Rattle.rack_outside.specs.Files.{Answers, AnswersFrom, IsTurning, Notes, OnFailedFile};
 
 use crate::{FileRead, Files};

@@ -1,6 +1,6 @@
 // A source over bytes in memory whose reads fail at chosen places.
 ghost use Rattle.std.specs.Prelude.{◌≡◌, ◌<◌, ◌≤◌, [], Some, length};
-ghost use Rattle.rack_outside.specs.Feed.{fresh_faulty_feed, FeedsOrFails};
+ghost use Rattle.rack_outside.specs.Supply.{fresh_faulty_supply, SuppliesOrFails};
 ghost use Rattle.rack_outside.specs.Source.{Gives, OnFailedRead};
 ghost use Rattle.rack_outside.specs.Told.{Rose};
 
@@ -22,12 +22,12 @@ pub struct MemSource {
 }
 
 impl Model for MemSource {
-    ghost use Rattle.rack_outside.specs.Feed.{FaultyFeed};
+    ghost use Rattle.rack_outside.specs.Supply.{FaultySupply};
 
-    ghost Value = { FaultyFeed };
+    ghost Value = { FaultySupply };
 
     ghost view = { λ s. record {
-      feed = s.source;
+      supply = s.source;
       fails = s.fails;
       reads = s.reads;
       faults = s.faults;
@@ -41,7 +41,7 @@ impl MemSource {
     /// than what is left. Behind the last size the room decides. `fails` names the reads that fail
     /// by their place, counted from 1. A read that fails takes nothing, also no size.
     pub fn new(bytes: Bytes, cuts: Bytes, fails: Bytes) -> MemSource
-        ensures fresh { result ≡ fresh_faulty_feed bytes cuts fails }
+        ensures fresh { result ≡ fresh_faulty_supply bytes cuts fails }
         ensures input { ⟦<MemSource as Source>⟧.input result ≡ Some bytes }
         ensures given { ⟦<MemSource as Source>⟧.given result ≡ Some [] }
         ensures faults { ⟦<MemSource as Source>⟧.faults result ≡ 0 }
@@ -56,9 +56,9 @@ impl MemSource {
 }
 
 impl Source for MemSource {
-    ghost input = { λ s. Some s.feed.input };
+    ghost input = { λ s. Some s.supply.input };
 
-    ghost given = { λ s. Some s.feed.given };
+    ghost given = { λ s. Some s.supply.given };
 
     ghost faults = { λ s. s.faults };
 
@@ -66,10 +66,10 @@ impl Source for MemSource {
     /// was given.
     fn read(&mut self, room: &mut [u8]) -> SourceRead
         requires { 0 < length room.old }
-        ensures exact { FeedsOrFails result self.old self.new room.old room.new }
-        ensures same { self.new.feed.input ≡ self.old.feed.input }
-        ensures gives { Gives result (Some self.old.feed.input) (Some self.old.feed.given)
-            (Some self.new.feed.given) room.new }
+        ensures exact { SuppliesOrFails result self.old self.new room.old room.new }
+        ensures same { self.new.supply.input ≡ self.old.supply.input }
+        ensures gives { Gives result (Some self.old.supply.input) (Some self.old.supply.given)
+            (Some self.new.supply.given) room.new }
         ensures later { self.old.faults ≤ self.new.faults }
         ensures failed { OnFailedRead result (Rose self.old.faults self.new.faults) }
     {

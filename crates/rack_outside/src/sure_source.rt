@@ -1,6 +1,6 @@
 // A source over bytes in memory that never fails.
 ghost use Rattle.std.specs.Prelude.{◌≡◌, ◌<◌, ◌≤◌, [], Some, length, drop};
-ghost use Rattle.rack_outside.specs.Feed.{fresh_feed, size_limit_lem, Feeds};
+ghost use Rattle.rack_outside.specs.Supply.{fresh_supply, piece_limit, Supplies};
 ghost use Rattle.rack_outside.specs.Source.{Gives, OnFailedRead};
 
 use crate::{Source, SourceRead};
@@ -23,9 +23,9 @@ pub struct SureSource {
 
 impl Model for SureSource {
     ghost use Rattle.std.specs.Prelude.{◌≤◌, length, take, drop};
-    ghost use Rattle.rack_outside.specs.Feed.{Feed};
+    ghost use Rattle.rack_outside.specs.Supply.{Supply};
 
-    ghost Value = { Feed };
+    ghost Value = { Supply };
 
     ghost view = { λ f. record {
       input = f.input;
@@ -42,7 +42,7 @@ impl SureSource {
     /// A size of 0 counts as 1, and no piece is larger than the room or than what is left. Behind
     /// the last size the room decides.
     pub fn new(bytes: Bytes, cuts: Bytes) -> SureSource
-        ensures fresh { result ≡ fresh_feed bytes cuts }
+        ensures fresh { result ≡ fresh_supply bytes cuts }
         ensures input { ⟦<SureSource as Source>⟧.input result ≡ Some bytes }
         ensures given { ⟦<SureSource as Source>⟧.given result ≡ Some [] }
         ensures faults { ⟦<SureSource as Source>⟧.faults result ≡ 0 }
@@ -66,7 +66,7 @@ impl Source for SureSource {
     /// Gives the next piece, and the end exactly where all was given.
     fn read(&mut self, room: &mut [u8]) -> SourceRead
         requires { 0 < length room.old }
-        ensures exact { Feeds result self.old self.new room.old room.new }
+        ensures exact { Supplies result self.old self.new room.old room.new }
         ensures same { self.new.input ≡ self.old.input }
         ensures gives { Gives result (Some self.old.input) (Some self.old.given)
             (Some self.new.given) room.new }
@@ -90,7 +90,7 @@ impl Source for SureSource {
 // How large a piece may be, behind so many others.
 fn size_limit(cuts: &[u8], pieces: usize, room: usize) -> usize
     requires { 0 < room }
-    ensures value { result ≡ size_limit_lem (drop pieces cuts.now) room }
+    ensures value { result ≡ piece_limit (drop pieces cuts.now) room }
     ensures some { 0 < result }
     ensures within { result ≤ room }
 {

@@ -1,15 +1,15 @@
--- What the read of a feed leaves, by the places where it stands in its input and its sizes.
+-- What the read of a supply leaves, by the places where it stands in its input and its sizes.
 use Rattle.std.proofs.Common.{◌≡◌, ◌<◌, ◌≤◌, ℕ, ◌+◌, min, List, [], ◌++◌, length, take, drop, refl, ap, ◌∙◌, arith, length-append, length-drop, length-take-le, Some}
 use Rattle.std.proofs.lemmas.List.{drop-drop, drop_all, take_all, take-append-drop}
 use Rattle.std.proofs.lemmas.Grind.{common_steps}
 use Rattle.std.proofs.Math.Seq.{take-add, take-append_seam}
-use Rattle.rack_outside.specs.Feed.{Feed, unread, fed}
+use Rattle.rack_outside.specs.Supply.{Supply, unread, moved_on}
 use Rattle.rack_outside.specs.Source.{Gives}
 use Rattle.rack_outside.specs.declared.source.SourceRead.TheVariants.{Bytes, End}
 
--- a feed by its places
-abbrev pub feed_at : List ℕ → List ℕ → ℕ → ℕ → Feed
-feed_at input cuts given pieces =
+-- a supply by its places
+abbrev pub supply_at : List ℕ → List ℕ → ℕ → ℕ → Supply
+supply_at input cuts given pieces =
     record { input = input; given = take given input; cuts = drop pieces cuts }
 
 -- one size further, or still behind the last
@@ -20,12 +20,12 @@ drop_one_more cuts pieces =
     let end : drop (length cuts) cuts ≡ [] = drop_all (length cuts) cuts (omega arith) in
     grind (arith, common_steps)
 
-pub unread_at : (input cuts : List ℕ) (given pieces : ℕ) → given ≤ length input → unread (feed_at input cuts given pieces) ≡ drop given input
+pub unread_at : (input cuts : List ℕ) (given pieces : ℕ) → given ≤ length input → unread (supply_at input cuts given pieces) ≡ drop given input
 unread_at input cuts given pieces fits = rw (length-take-le given input fits) refl
 
-pub fed_at : (input cuts : List ℕ) (given pieces n : ℕ) → given ≤ length input
-    → feed_at input cuts (given + n) (min (pieces + 1) (length cuts)) ≡ fed n (feed_at input cuts given pieces)
-fed_at input cuts given pieces n fits =
+pub moved_on_at : (input cuts : List ℕ) (given pieces n : ℕ) → given ≤ length input
+    → supply_at input cuts (given + n) (min (pieces + 1) (length cuts)) ≡ moved_on n (supply_at input cuts given pieces)
+moved_on_at input cuts given pieces n fits =
     rw (length-take-le given input fits) (rw (take-add given n input, drop_one_more cuts pieces) refl)
 
 -- a piece of n bytes, copied to the front of the room, is the next of the input

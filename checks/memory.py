@@ -1,0 +1,79 @@
+"""Want of memory: whatever address space the program is left, it answers rightly or says that memory was refused."""
+
+import os
+import resource
+
+from program import PROGRAM, run, write
+from wanted import BODY_LIMIT, CODED, FILE_LIMIT, GET, LENGTH, NO_MEMORY, post
+
+PAGE = 4096
+MOST = 1 << 30
+STEPS = 64
+# The C library then asks the system for no more than each allocation needs, so that each can be the one refused.
+NO_PADDING = {"GLIBC_TUNABLES": "glibc.malloc.top_pad=0", "MALLOC_TOP_PAD_": "0"}
+
+
+def check_memory(checks):
+    checks.begin("want of memory")
+    front = b"run text 200 text/plain "
+    write("most", front + b"h" * (FILE_LIMIT - len(front)))
+    body = b"a" * BODY_LIMIT
+    chunks = b"".join(b"4000\r\n" + body[:0x4000] + b"\r\n" for _ in range(BODY_LIMIT // 0x4000)) + b"0\r\n\r\n"
+    for name, words, stdin in [
+        ("a small request", ["once", "hello.stack"], GET),
+        ("64 fields whose names differ", ["once", "hello.stack"], post([b"X-%d: a" % i for i in range(63)])),
+        ("long words", ["once", *["x" * 100000] * 15], GET),
+        ("the largest file", ["once", "most"], GET),
+        ("a refusal", ["once", "hello.stack"], b"x\n\n"),
+        ("an echo of 1 MiB by length", ["once", "echo.stack"], post([LENGTH + b"%d" % BODY_LIMIT], body)),
+        ("an echo of 1 MiB in chunks", ["once", "echo.stack"], post(CODED, chunks)),
+    ]:
+        check_less_and_less(checks, name, words, stdin)
+    check_mute(checks)
+
+
+def check_less_and_less(checks, name, words, stdin):
+    right = run(words, stdin=stdin, program=(PROGRAM,))
+    ample = least(lambda space: within(space, words, stdin) == right)
+    begins = least(lambda space: has_begun(within(space, words, stdin)))
+    if begins >= ample:
+        checks.pass_over(name, "the limit on address space does not hold here")
+        return
+    step = max(1, (ample - begins) // STEPS)
+    got = {space: within(space, words, stdin) for space in range(begins, ample, step)}
+    others = {space: answer for space, answer in got.items() if answer != NO_MEMORY}
+    checks.counts(f"{name}, other answers by pages of address space", {}, others)
+
+
+def check_mute(checks):
+    """The status is the same where standard error takes nothing."""
+    words, stdin = ["once", "hello.stack"], GET
+    begins = least(lambda space: has_begun(within(space, words, stdin)))
+    checks.answers("standard error closed", (1, b"", b""), within(begins, words, stdin, closed=2))
+    if os.path.exists("/dev/full"):
+        with open("/dev/full", "wb") as full:
+            checks.answers("standard error full", (1, b"", b""), within(begins, words, stdin, stderr=full))
+
+
+def least(serves):
+    """The fewest pages that serve, where more serve too."""
+    few, many = 0, MOST // PAGE
+    while many - few > 1:
+        middle = (few + many) // 2
+        few, many = (few, middle) if serves(middle) else (middle, many)
+    return many
+
+
+def within(space, words, stdin, closed=None, **how):
+    """What the program answers within so many pages of address space, with one stream closed or none."""
+    def limit():
+        resource.setrlimit(resource.RLIMIT_AS, (space * PAGE, space * PAGE))
+        if closed is not None:
+            os.close(closed)
+
+    return run(words, stdin=stdin, program=(PROGRAM,), preexec_fn=limit, env=NO_PADDING, **how)
+
+
+def has_begun(ended):
+    """Did the program end by itself? Where the system can't even load it, a signal or its loader ends it."""
+    return ended is not None and 0 <= ended[0] < 127

@@ -1,0 +1,165 @@
+"""Running the program as a user does, and counting what was as it should be."""
+
+import errno
+import os
+import socket
+import subprocess
+import tempfile
+import threading
+
+TOP = os.path.dirname(os.path.dirname(os.path.abspath(__file__)))
+PUMA = os.path.join(TOP, "bin", "puma")
+PROGRAM = os.path.join(TOP, "crates", "puma_cli", "out", "puma_cli")
+SECONDS = 60
+
+
+class Cut:
+    """Input that comes in these pieces, each of them one read, and then ends or stays open."""
+
+    def __init__(self, pieces, stays_open=False):
+        self.pieces = [bytes(piece) for piece in pieces]
+        self.stays_open = stays_open
+
+    @staticmethod
+    def every(text, size):
+        return Cut(text[at:at + size] for at in range(0, len(text), size))
+
+
+class Reset:
+    """Input that breaks off behind this text: the next read fails."""
+
+    def __init__(self, text):
+        self.text = text
+
+
+class Ready:
+    """Input of which this text is there, and where a read that would wait fails."""
+
+    def __init__(self, text):
+        self.text = text
+
+
+def feed(end, cut):
+    try:
+        for piece in cut.pieces:
+            end.send(piece)
+    except OSError as e:
+        # The program has read enough and has ended.
+        if e.errno not in (errno.EPIPE, errno.ECONNRESET):
+            raise
+    if not cut.stays_open:
+        end.shutdown(socket.SHUT_WR)
+
+
+def ends_of(stdin):
+    """The end that the program reads, and the far one where it has to stay open."""
+    if isinstance(stdin, bytes):
+        near = tempfile.TemporaryFile()
+        near.write(stdin)
+        near.seek(0)
+        return near, None
+    if isinstance(stdin, Cut):
+        far, near = socket.socketpair(socket.AF_UNIX, socket.SOCK_SEQPACKET)
+        return near, far
+    far, near = socket.socketpair(socket.AF_UNIX, socket.SOCK_STREAM)
+    if isinstance(stdin, Reset):
+        near.send(b"never read")
+        far.send(stdin.text)
+        far.close()
+        return near, None
+    far.send(stdin.text)
+    near.setblocking(False)
+    return near, far
+
+
+def run(words, stdin=b"", stdout=subprocess.PIPE, stderr=subprocess.PIPE, program=(PUMA,), **how):
+    """Status, output and errors of the program, run in the current folder. A hang gives None.
+
+    `stdin` is a text, one of the classes above, the name of a file, or an open one. `how` is for Popen.
+    """
+    far = feeder = None
+    if isinstance(stdin, str):
+        near = os.open(stdin, os.O_RDONLY)
+    elif hasattr(stdin, "fileno"):
+        near = stdin
+    else:
+        near, far = ends_of(stdin)
+    child = subprocess.Popen([*program, *words], stdin=near, stdout=stdout, stderr=stderr, **how)
+    if isinstance(near, int):
+        os.close(near)
+    elif near is not stdin:
+        near.close()
+    if isinstance(stdin, Cut):
+        feeder = threading.Thread(target=feed, args=(far, stdin))
+        feeder.start()
+    try:
+        out, err = child.communicate(timeout=SECONDS)
+        return (child.returncode, out or b"", err or b"")
+    except subprocess.TimeoutExpired:
+        child.kill()
+        child.communicate()
+        return None
+    finally:
+        if feeder is not None:
+            feeder.join()
+        if far is not None:
+            far.close()
+
+
+class Checks:
+    """Counts what passed, and prints a line for each group and for each case that failed."""
+
+    def __init__(self):
+        self.passed = self.failed = self.skipped = 0
+        self.group, self.in_group = "", 0
+
+    def begin(self, group):
+        self.end()
+        self.group, self.in_group = group, 0
+
+    def end(self):
+        if self.in_group:
+            print(f"{self.group}: {self.in_group} passed", flush=True)
+
+    def wants(self, name, want, *words, **how):
+        """Status, output and errors of the program with these words."""
+        self.answers(name, want, run(words, **how))
+
+    def answers(self, name, want, got):
+        """Status, output and errors, as `run` gives them."""
+        if got == want:
+            self.passed += 1
+            self.in_group += 1
+            return
+        self.failed += 1
+        print(f"FAILED {self.group}: {name}")
+        if got is None:
+            print(f"  did not end within {SECONDS} seconds")
+            return
+        for part, wanted, found in zip(("status", "output", "errors"), want, got):
+            if wanted != found:
+                print(f"  {part}: wanted {short(wanted)}, found {short(found)}")
+
+    def counts(self, name, want, got):
+        """Anything else that is to be as wanted."""
+        if got == want:
+            self.passed += 1
+            self.in_group += 1
+        else:
+            self.failed += 1
+            print(f"FAILED {self.group}: {name}\n  wanted {short(want)}, found {short(got)}")
+
+    def pass_over(self, name, why):
+        self.skipped += 1
+        print(f"passed over, since {why}: {self.group}: {name}")
+
+
+def short(value):
+    text = repr(value)
+    return text if len(text) < 200 else text[:150] + f".. ({len(text)} characters)"
+
+
+def write(name, text):
+    with open(name, "wb") as file:
+        file.write(text)
+    return name

@@ -1,0 +1,264 @@
+"""Exit statuses, and streams that break, fill, wait or are closed."""
+
+import fcntl
+import os
+import resource
+import signal
+import socket
+import subprocess
+
+from program import PROGRAM, PUMA, Ready, Reset, run, write
+from wanted import (ANSWERED, BODY_LIMIT, CODED, FILE_LIMIT, GET, LENGTH, NOTHING, READ_FAILED, UNREADABLE,
+                    WRITE_FAILED, post, refusal, reply)
+
+LARGE = post([LENGTH + b"%d" % BODY_LIMIT], b"a" * BODY_LIMIT)
+LARGE_REPLY = reply(b"a" * BODY_LIMIT)
+
+
+def without(stream, program=PUMA):
+    """The program with this stream closed, as a shell closes it."""
+    return ("sh", "-c", f'exec "$@" {stream}&-', "sh", program)
+
+
+def check_statuses(checks):
+    """The table of exit statuses, each with its line, and each where standard error takes nothing too."""
+    checks.begin("exit statuses")
+    write("bad.stack", b"run env\n")
+    write("long", b"h" * (FILE_LIMIT + 1))
+    # Of the status for want of memory the cases of memory tell.
+    for number, line, words, stdin in [
+        (0, b"", ["once", "hello.stack"], GET),
+        (2, b"puma: usage\n", ["once"], GET),
+        (3, b"puma: file absent\n", ["once", "nofile"], GET),
+        (3, b"puma: file long\n", ["once", "long"], GET),
+        (3, b"puma: file failed\n", ["once", "."], GET),
+        (4, b"puma: stack line 1 S0\n", ["once", "bad.stack"], GET),
+        (6, b"puma: read failed\n", ["once", "hello.stack"], "/"),
+    ]:
+        name = line.decode().strip() or "done"
+        output = b"" if number else reply(b"hello")
+        checks.wants(name, (number, output, line), *words, stdin=stdin)
+        check_mute(checks, name, (number, output, b""), words, stdin=stdin)
+    # Both streams are one here.
+    for name, want, device in [("a full device", 7, "/dev/full")]:
+        if not os.path.exists(device):
+            checks.pass_over(name, f"there is no {device}")
+            continue
+        with open(device, "wb") as full:
+            checks.wants("puma: write failed", WRITE_FAILED, "once", "hello.stack", stdin=GET, stdout=full)
+            check_mute(checks, "puma: write failed", (want, b"", b""), ["once", "hello.stack"], stdin=GET, stdout=full)
+
+
+def check_mute(checks, name, want, words, **how):
+    """The same status where standard error is closed, full, or a pipe that nobody reads."""
+    checks.wants(name + ", standard error closed", want, *words, program=without("2>"), **how)
+    if os.path.exists("/dev/full"):
+        with open("/dev/full", "wb") as full:
+            checks.wants(name + ", standard error full", want, *words, stderr=full, **how)
+    reader, writer = os.pipe()
+    os.close(reader)
+    checks.wants(name + ", standard error without a reader", want, *words, stderr=writer, **how)
+    os.close(writer)
+
+
+def check_streams(checks):
+    checks.begin("streams")
+    for name, want, stdin in [
+        ("input that is a folder", READ_FAILED, "/"),
+        ("input that breaks off", READ_FAILED, Reset(GET[:-1])),
+        ("input that breaks off at once", READ_FAILED, Reset(b"")),
+        ("input that breaks off behind a whole request", ANSWERED, Reset(GET)),
+        ("input of which half is there, and a read would wait", READ_FAILED, Ready(GET[:-1])),
+        ("input of which nothing is there, and a read would wait", READ_FAILED, Ready(b"")),
+        ("input of which all is there, and a read would wait", ANSWERED, Ready(GET)),
+    ]:
+        checks.wants(name, want, "once", "hello.stack", stdin=stdin)
+    checks.wants("input that is closed", READ_FAILED, "once", "hello.stack", program=without("<"))
+    checks.wants("output that is closed", WRITE_FAILED, "once", "hello.stack", stdin=GET, program=without(">"))
+    checks.wants("nothing for output that is closed", NOTHING, "once", "hello.stack", program=without(">"))
+    for name, want, stdin in [
+        ("a pipe whose reader is gone", WRITE_FAILED, GET),
+        ("a refusal into a pipe whose reader is gone", WRITE_FAILED, b"\r\n\xff\r\n\r\n"),
+        ("nothing for a pipe whose reader is gone", NOTHING, b""),
+    ]:
+        reader, writer = os.pipe()
+        os.close(reader)
+        checks.wants(name, want, "once", "hello.stack", stdin=stdin, stdout=writer)
+        os.close(writer)
+    check_leaving_reader(checks)
+    check_full_pipe(checks)
+    check_file_limit(checks)
+
+
+def check_leaving_reader(checks):
+    """A reader that reads some of a large echo and leaves."""
+    for some in (1, 1000, 70000):
+        write("large", LARGE)
+        with open("large", "rb") as stdin:
+            child = subprocess.Popen([PUMA, "once", "echo.stack"], stdin=stdin, stdout=subprocess.PIPE, stderr=subprocess.PIPE)
+        front = b""
+        while len(front) < some:
+            front += os.read(child.stdout.fileno(), some - len(front))
+        child.stdout.close()
+        errors = child.stderr.read()
+        child.stderr.close()
+        got = (child.wait(), front, errors)
+        checks.answers(f"a reader that leaves behind {some} bytes", (7, LARGE_REPLY[:some], WRITE_FAILED[2]), got)
+
+
+def check_full_pipe(checks):
+    """A pipe that nobody empties, where a write that would wait fails."""
+    for name, stack, stdin, whole in [
+        ("a small reply", "hello.stack", GET, reply(b"hello")),
+        ("a large echo", "echo.stack", LARGE, LARGE_REPLY),
+    ]:
+        reader, writer = os.pipe()
+        os.set_blocking(reader, False)
+        os.set_blocking(writer, False)
+        status, _, errors = run(["once", stack], stdin=stdin, stdout=writer) or (None, b"", b"")
+        taken = b""
+        while len(taken) < len(whole):
+            try:
+                taken += os.read(reader, len(whole))
+            except BlockingIOError:
+                break
+        want = (0, whole, b"") if len(whole) < 4096 else (7, whole[:len(taken)], WRITE_FAILED[2])
+        checks.answers(f"{name} into a pipe where a write would wait", want, (status, taken, errors))
+        while True:
+            try:
+                os.write(writer, b"x" * 4096)
+            except BlockingIOError:
+                break
+        checks.wants(f"{name} into a pipe that is full", WRITE_FAILED, "once", stack, stdin=stdin, stdout=writer)
+        os.close(reader)
+        os.close(writer)
+
+
+def check_file_limit(checks):
+    """A file that may not grow past a size: `bin/puma` sees to it that a write fails and no signal ends it."""
+    for name, size, stack, stdin, whole in [
+        ("a small reply", 10, "hello.stack", GET, reply(b"hello")),
+        ("a large echo", 100000, "echo.stack", LARGE, LARGE_REPLY),
+        ("a reply that just fits", len(reply(b"hello")), "hello.stack", GET, reply(b"hello")),
+    ]:
+        def limit():
+            resource.setrlimit(resource.RLIMIT_FSIZE, (size, size))
+
+        with open("taken", "w+b") as taken:
+            status, _, errors = run(["once", stack], stdin=stdin, stdout=taken, preexec_fn=limit) or (None, b"", b"")
+            taken.seek(0)
+            want = (0, whole, b"") if size == len(whole) else (7, whole[:size], WRITE_FAILED[2])
+            checks.answers(f"{name} into a file that may have {size} bytes", want, (status, taken.read(), errors))
+            taken.truncate(0)
+            taken.seek(0)
+            got = run(["once", stack], stdin=stdin, stdout=taken, program=(PROGRAM,), preexec_fn=limit)
+            want = 0 if size == len(whole) else -signal.SIGXFSZ
+            checks.counts(f"{name}, the program alone", (want, b"", b""), got)
+
+
+def check_reads_and_writes(checks):
+    """How many reads and writes there are: each piece of such a socket is one."""
+    checks.begin("reads and writes")
+    if not hasattr(socket, "SOCK_SEQPACKET"):
+        checks.pass_over("all", "there are no sockets that keep pieces apart")
+        return
+    behind = b"never read"
+    coded = post(CODED, b"5\r\nhello\r\n0\r\n\r\n")
+    length = post([LENGTH + b"5"], b"hello")
+    for name, stack, want, pieces in [
+        ("a request", "hello.stack", ANSWERED[1], [GET]),
+        ("a request in two pieces", "hello.stack", ANSWERED[1], [GET[:9], GET[9:]]),
+        ("a request and some bytes behind it", "hello.stack", ANSWERED[1], [GET + b"GET /"]),
+        ("a request and another", "hello.stack", ANSWERED[1], [GET + GET]),
+        ("a request behind an empty line", "hello.stack", ANSWERED[1], [b"\r\n", GET]),
+        ("a body by length", "echo.stack", reply(b"hello"), [length]),
+        ("a body by length in two pieces", "echo.stack", reply(b"hello"), [length[:-2], length[-2:]]),
+        ("a body in chunks", "echo.stack", reply(b"hello"), [coded]),
+        ("a body in chunks, byte by byte", "echo.stack", reply(b"hello"), [coded[at:at + 1] for at in range(len(coded))]),
+        ("a body of 10,000 bytes", "echo.stack", reply(b"a" * 10000), [post([LENGTH + b"10000"]), b"a" * 10000]),
+        ("a request that is not built", "hello.stack", refusal("F0"), [GET.replace(b"GET", b"HEAD")]),
+        ("a refusal of a head", "hello.stack", refusal("F3"), [b"x\n", b"\n"]),
+        ("a refusal of a length", "echo.stack", refusal("F11"), [post([LENGTH + b"x"])]),
+        ("a refusal of a chunk", "echo.stack", refusal("F13"), [post(CODED), b"5\r\nhelloX"]),
+    ]:
+        read, wrote, status = packets(stack, [*pieces, behind])
+        checks.counts(name + ", what was not read", behind, read)
+        checks.counts(name + ", what each write took", [want], wrote)
+        checks.counts(name + ", its status", 0, status)
+
+
+def packets(stack, pieces):
+    """What was left unread of the pieces, what each write took, and the status."""
+    far, near = socket.socketpair(socket.AF_UNIX, socket.SOCK_SEQPACKET)
+    reader, writer = socket.socketpair(socket.AF_UNIX, socket.SOCK_SEQPACKET)
+    with far, near, reader:
+        for piece in pieces:
+            far.send(piece)
+        with writer:
+            # The far end stays open, so that one read too many would wait.
+            ended = run(["once", stack], stdin=near, stdout=writer)
+        wrote = []
+        while piece := reader.recv(1 << 20):
+            wrote.append(piece)
+        near.setblocking(False)
+        try:
+            left = near.recv(1 << 20)
+        except BlockingIOError:
+            left = None
+        return left, wrote, ended and ended[0]
+
+
+def check_interruptions(checks):
+    """Calls of the system that are interrupted, which are made again, and that fail, which are not."""
+    checks.begin("interruptions and failed calls")
+    write("request", GET)
+    write("half", GET[:-1])
+    try:
+        tried = subprocess.run(["strace", "-o", "trace", "-e", "inject=read:error=EINTR:when=999", "true"],
+                               capture_output=True)
+        can = tried.returncode == 0
+    except FileNotFoundError:
+        can = False
+    stack = ["-P", os.path.abspath("hello.stack")]
+    reads = ["-P", os.path.abspath("request")]
+    half = ["-P", os.path.abspath("half")]
+    for name, want, stdin, count, which in [
+        ("interrupted reads of the stack file", ANSWERED, "request", 3, [*stack, "-e", "inject=read:error=EINTR:when=1..3"]),
+        ("interrupted reads of the input", ANSWERED, "request", 3, [*reads, "-e", "inject=read:error=EINTR:when=1..3"]),
+        ("interrupted writes of the output", ANSWERED, "request", 3, ["-e", "inject=write:error=EINTR:when=1..3"]),
+        ("a first read of the stack file that fails", UNREADABLE, "request", 1, [*stack, "-e", "inject=read:error=EIO:when=1"]),
+        ("a read of the stack file that fails behind its bytes", UNREADABLE, "request", 1,
+         [*stack, "-e", "inject=read:error=EIO:when=2"]),
+        ("a first read of the input that fails", READ_FAILED, "request", 1, [*reads, "-e", "inject=read:error=EIO:when=1"]),
+        ("a first read of the input that would wait", READ_FAILED, "request", 1,
+         [*reads, "-e", "inject=read:error=EAGAIN:when=1"]),
+        ("a read of the input that fails behind some bytes", READ_FAILED, "half", 1,
+         [*half, "-e", "inject=read:error=EIO:when=2"]),
+        ("a first write that fails", WRITE_FAILED, "request", 1, ["-e", "inject=write:error=EIO:when=1"]),
+        ("a first write that would wait", WRITE_FAILED, "request", 1, ["-e", "inject=write:error=EAGAIN:when=1"]),
+        ("a first write that takes nothing", WRITE_FAILED, "request", 1, ["-e", "inject=write:retval=0:when=1"]),
+    ]:
+        if not can:
+            checks.pass_over(name, "strace is missing or may not be used")
+            continue
+        program = ["strace", "-o", "trace", *which, PROGRAM]
+        checks.wants(name, want, "once", "hello.stack", stdin=stdin, program=program)
+        with open("trace", "rb") as trace:
+            checks.counts(f"{name}, how many", count, trace.read().count(b"(INJECTED)"))
+    if can:
+        check_failed_midway(checks)
+    else:
+        checks.pass_over("a write that fails midway", "strace is missing or may not be used")
+
+
+def check_failed_midway(checks):
+    """A write that takes some bytes and then one that fails: there is no third."""
+    reader, writer = os.pipe()
+    os.set_blocking(writer, False)
+    fcntl.fcntl(writer, fcntl.F_SETPIPE_SZ, 4096)
+    program = ["strace", "-o", "trace", "-e", "trace=write", PROGRAM]
+    checks.wants("a write that fails midway", WRITE_FAILED, "once", "echo.stack", stdin=LARGE, stdout=writer, program=program)
+    os.close(writer)
+    os.close(reader)
+    with open("trace", "rb") as trace:
+        checks.counts("a write that fails midway, how many", 2, trace.read().count(b"write(1, "))
