@@ -5,9 +5,8 @@ use Rattle.std.proofs.lemmas.List.{drop-append-le, nil_from_length}
 use Rattle.rack_types.specs.declared.fault.Fault.{Fault}
 use Rattle.message_framing.specs.declared.fields.Framing.{Framing}
 use Rattle.message_framing.specs.declared.fields.Framing.TheVariants.{Stated, Chunked}
-use Rattle.message_framing.specs.Chunks.{Front, coming, chunk, last, refused, FrontIs, ChunksAt, ChunksRefused}
+use Rattle.message_framing.specs.Chunks.{Front, coming, chunk, last, refused, FrontIs, ChunksAt, ChunksRefused, After}
 use Rattle.message_framing.specs.Body.{IsBody, BodyRefusal}
-use Rattle.message_framing.specs.Decoding.{After}
 use Rattle.message_framing.proofs.FrontLemmas.{front_unique, front_stays, chunk_is_whole, last_is_whole, refused_is_whole}
 use Rattle.message_framing.proofs.ChunkPartsLemmas.{chunk_inside, last_inside}
 

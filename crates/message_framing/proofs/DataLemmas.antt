@@ -3,11 +3,12 @@ use Rattle.std.proofs.Common.{◌≡◌, ℕ, ◌+◌, ◌-◌, ◌<◌, ◌≤�
 use Rattle.std.proofs.lemmas.List.{drop_all, append-nil}
 use Rattle.std.proofs.Math.Seq.{take-append_seam, drop-append_seam}
 use Rattle.std.specs.List.{concat}
+use Rattle.std.specs.Prelude.{vec_len, vec_capacity}
 use Rattle.std.proofs.lemmas.List.Folds.{concat-append}
 use Rattle.rack_types.specs.declared.fault.Fault.TheVariants.{F}
 use Rattle.message_framing.specs.Framing.{body_limit}
-use Rattle.message_framing.specs.Chunks.{Front, coming, refused, data_front, FrontIs, line_end, chunk}
-use Rattle.message_framing.specs.Decoding.{IsSizeLine, After, InSizeLine, InChunk}
+use Rattle.message_framing.specs.Chunks.{Front, coming, refused, data_front, FrontIs, line_end, chunk, After}
+use Rattle.message_framing.specs.Decoding.{IsSizeLine, InSizeLine, InChunk}
 use Rattle.message_framing.specs.declared.chunks.Chunks.{Chunks}
 use Rattle.message_framing.specs.declared.fields.Framing.TheVariants.{Chunked}
 use Rattle.message_framing.specs.HeadText.{cr}
@@ -47,8 +48,9 @@ in_chunk_more c left tail b more h =
 
 -- some of the data that was to come
 pub data_taken : (old new : Chunks) (left n : ℕ) (b piece : List ℕ) → InChunk old left [] b → n ≤ left → n ≤ length piece
-    → new.bytes.items ≡ old.bytes.items ++ take n piece → new.text.items ≡ old.text.items → InChunk new (left - n) [] (b ++ take n piece)
-data_taken old new left n b piece h part fits bytes text =
+    → new.bytes.items ≡ old.bytes.items ++ take n piece → new.text.items ≡ old.text.items → vec_capacity old.bytes ≤ vec_capacity new.bytes
+    → InChunk new (left - n) [] (b ++ take n piece)
+data_taken old new left n b piece h part fits bytes text room =
     let size : length (take n piece) ≡ n = length-take n piece ∙ omega (arith, fits) in
     let all : length h.got + left ≡ length (h.got ++ take n piece) + (left - n) = omega (arith, size, part, length-append h.got (take n piece)) in
     record {
@@ -62,7 +64,12 @@ data_taken old new left n b piece h part fits bytes text =
       data_is = bytes ∙ ap (λ w. w ++ take n piece) h.data_is ∙ append_assoc (concat h.pieces) h.got (take n piece);
       sum = omega (arith, all, h.sum);
       empty = text ∙ h.empty;
+      room = omega (arith, h.room, room, part, size, ap length bytes, length-append old.bytes.items (take n piece), old.bytes.ok.0, new.bytes.ok.0);
     }
+
+-- data that is to come has its room
+pub data_has_room : (c : Chunks) (left n : ℕ) (b : List ℕ) → InChunk c left [] b → n ≤ left → vec_capacity c.bytes < vec_len c.bytes + n → ⊥
+data_has_room c left n b h part full = omega (arith, h.room, part, full)
 
 -- what stands behind data that came whole
 pub data_front_now : (c : Chunks) (tail b : List ℕ) (front : Front) (h : InChunk c 0 tail b) (more : List ℕ)
@@ -75,7 +82,7 @@ data_front_now c tail b front h more is =
 
 -- the carriage return behind the data
 pub return_taken : (old new : Chunks) (b piece : List ℕ) → InChunk old 0 [] b → 0 < length piece → get_or piece 0 0 ≡ 13
-    → new.bytes.items ≡ old.bytes.items → new.text.items ≡ old.text.items → InChunk new 0 (cr ∷ []) (b ++ take 1 piece)
+    → new.bytes ≡ old.bytes → new.text.items ≡ old.text.items → InChunk new 0 (cr ∷ []) (b ++ take 1 piece)
 return_taken old new b piece h some is bytes text =
     let first : take 1 piece ≡ 13 ∷ [] = first_byte piece some ∙ ap (λ x. x ∷ []) is in
     record {
@@ -85,9 +92,10 @@ return_taken old new b piece h some is bytes text =
       after = subst (λ (w : List ℕ). After h.pieces 0 (b ++ take 1 piece) (h.line ++ (h.got ++ w))) first (in_chunk_more old 0 [] b (take 1 piece) h);
       size = h.size;
       some = h.some;
-      data_is = bytes ∙ h.data_is;
+      data_is = ap (λ v. v.items) bytes ∙ h.data_is;
       sum = h.sum;
       empty = text ∙ h.empty;
+      room = subst (λ v. vec_len v + 0 ≤ vec_capacity v) (sym bytes) h.room;
     }
 
 -- another byte there

@@ -8,9 +8,9 @@ use Rattle.message_framing.specs.declared.chunks.Place.{Place}
 use Rattle.message_framing.specs.declared.fields.Framing.TheVariants.{Chunked}
 use Rattle.message_framing.specs.HeadText.{cr}
 use Rattle.message_framing.specs.Framing.{body_limit}
-use Rattle.message_framing.specs.Chunks.{coming, FrontIs}
+use Rattle.message_framing.specs.Chunks.{coming, FrontIs, After}
 use Rattle.message_framing.specs.Body.{IsBody, BodyRefusal}
-use Rattle.message_framing.specs.Decoding.{After, InChunk, IsFedAt, IsFed}
+use Rattle.message_framing.specs.Decoding.{InChunk, HasReadAt, HasRead}
 use Rattle.message_framing.proofs.DataLemmas.{data_coming, data_front_now}
 use Rattle.message_framing.proofs.SizeLineLemmas.{line_coming}
 use Rattle.message_framing.proofs.ReaderLemmas.{nothing_behind, parts_join, steps_join}
@@ -41,7 +41,7 @@ chunk_short : (c : Chunks) (left : ℕ) (tail b : List ℕ) (h : InChunk c left 
 chunk_short c left tail b h one =
     omega (arith, length-append h.line (h.got ++ tail), length-append h.got tail, one, h.size.within, h.sum)
 
-coming_at : (p : Place) (c : Chunks) (b : List ℕ) → IsFedAt p c b → IsComing b
+coming_at : (p : Place) (c : Chunks) (b : List ℕ) → HasReadAt p c b → IsComing b
 coming_at place.Size c b h = record {
   pieces = h.pieces;
   rest = c.text.items;
@@ -75,7 +75,7 @@ coming_at (place.Trailer line) c b h = record {
   short = omega (arith, length-append h.line c.text.items, h.size.within, h.within);
 }
 
-pub fed_coming : (c : Chunks) (b : List ℕ) → IsFed c b → IsComing b
+pub fed_coming : (c : Chunks) (b : List ℕ) → HasRead c b → IsComing b
 fed_coming c b fed = coming_at c.place c b fed
 
 -- what a test for nothing tells
@@ -93,16 +93,16 @@ tells_some (suc n) is = omega arith
 
 -- all that a reader was fed, and one step more
 pub fed_on : (first old new : Chunks) (piece rest : List ℕ) (at n : ℕ) → rest ≡ drop at piece
-    → ((b : List ℕ) → IsFed first b → IsFed old (b ++ take at piece))
-    → ((b : List ℕ) → IsFed old b → IsFed new (b ++ take n rest)) → (b : List ℕ) → IsFed first b → IsFed new (b ++ take (at + n) piece)
+    → ((b : List ℕ) → HasRead first b → HasRead old (b ++ take at piece))
+    → ((b : List ℕ) → HasRead old b → HasRead new (b ++ take n rest)) → (b : List ℕ) → HasRead first b → HasRead new (b ++ take (at + n) piece)
 fed_on first old new piece rest at n is before step b fed =
-    subst (λ (w : List ℕ). IsFed new w) (ap (λ w. (b ++ take at piece) ++ take n w) is ∙ steps_join b piece at n)
+    subst (λ (w : List ℕ). HasRead new w) (ap (λ w. (b ++ take at piece) ++ take n w) is ∙ steps_join b piece at n)
     (step (b ++ take at piece) (before b fed))
 
 -- the last step, to a whole body
 pub fed_whole : (first old : Chunks) (piece rest bytes : List ℕ) (at n : ℕ) → rest ≡ drop at piece
-    → ((b : List ℕ) → IsFed first b → IsFed old (b ++ take at piece))
-    → ((b : List ℕ) → IsFed old b → IsBody Chunked (b ++ take n rest) bytes) → (b : List ℕ) → IsFed first b
+    → ((b : List ℕ) → HasRead first b → HasRead old (b ++ take at piece))
+    → ((b : List ℕ) → HasRead old b → IsBody Chunked (b ++ take n rest) bytes) → (b : List ℕ) → HasRead first b
     → IsBody Chunked (b ++ take (at + n) piece) bytes
 fed_whole first old piece rest bytes at n is before step b fed =
     subst (λ (w : List ℕ). IsBody Chunked w bytes) (ap (λ w. (b ++ take at piece) ++ take n w) is ∙ steps_join b piece at n)
@@ -110,8 +110,8 @@ fed_whole first old piece rest bytes at n is before step b fed =
 
 -- the last step, to a refusal
 pub fed_refused : (first old : Chunks) (piece rest : List ℕ) (at : ℕ) (f : Fault) → rest ≡ drop at piece
-    → ((b : List ℕ) → IsFed first b → IsFed old (b ++ take at piece))
-    → ((b : List ℕ) → IsFed old b → BodyRefusal Chunked (b ++ rest) f) → (b : List ℕ) → IsFed first b → BodyRefusal Chunked (b ++ piece) f
+    → ((b : List ℕ) → HasRead first b → HasRead old (b ++ take at piece))
+    → ((b : List ℕ) → HasRead old b → BodyRefusal Chunked (b ++ rest) f) → (b : List ℕ) → HasRead first b → BodyRefusal Chunked (b ++ piece) f
 fed_refused first old piece rest at f is before step b fed =
     subst (λ (w : List ℕ). BodyRefusal Chunked w f) (ap (λ w. (b ++ take at piece) ++ w) is ∙ parts_join b piece at)
     (step (b ++ take at piece) (before b fed))

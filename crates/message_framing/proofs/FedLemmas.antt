@@ -6,7 +6,8 @@ use Rattle.message_framing.specs.declared.scan.Line.TheVariants.{Skipping}
 use Rattle.message_framing.specs.declared.intake.Intake.{Intake}
 use Rattle.message_framing.specs.declared.standing.Standing.{Standing}
 use Rattle.message_framing.specs.Scan.{behind}
-use Rattle.message_framing.specs.Intake.{FedAt, Fed, IsStated, IsChunked, IsWholeAt, SpentAt, Spent}
+use Rattle.message_framing.specs.Intake.{Fed, Spent}
+use Rattle.message_framing.specs.Held.{FedAt, IsStated, IsChunked, IsWholeAt, SpentAt}
 use Rattle.message_framing.specs.declared.intake.Feed.TheVariants.{Whole, Refused}
 use Rattle.message_framing.specs.declared.standing.ChunkedBody.{ChunkedBody}
 use Rattle.message_framing.specs.declared.standing.StatedBody.{StatedBody}

@@ -11,14 +11,16 @@ use Rattle.message_framing.specs.declared.intake.Intake.{Intake}
 use Rattle.message_framing.specs.HeadText.{head_len, head_text}
 use Rattle.message_framing.specs.Scan.{behind, ends}
 use Rattle.message_framing.specs.Request.{head_limit, head_within, has_too_many_lines, Refusal, IsRequest, Wanting}
-use Rattle.message_framing.specs.Intake.{IsOpen, EndsHead, Fed, NeedsMemory, FedOrLacks}
+use Rattle.message_framing.specs.Intake.{Fed, NeedsMemory}
+use Rattle.message_framing.specs.Held.{IsOpen, EndsHead}
+use Rattle.message_framing.specs.FeedParts.{FedOrLacks}
 use Rattle.message_framing.specs.declared.fields.Framing.{Framing}
 use Rattle.message_framing.specs.declared.intake.Feed.TheVariants.{Whole, Refused}
 use Rattle.message_framing.specs.declared.standing.Standing.{Standing}
 use Rattle.message_framing.specs.Head.{is_chunked, request_with}
 use Rattle.message_framing.specs.Body.{IsBody}
-use Rattle.message_framing.specs.Decoding.{IsFed}
-use Rattle.message_framing.specs.Reads.{StandsIn, StandsHead, RefusesHead}
+use Rattle.message_framing.specs.Decoding.{HasRead}
+use Rattle.message_framing.specs.Places.{StandsIn, StandsHead, RefusesHead}
 use Rattle.message_framing.specs.Standing.{Judges, Opens}
 use Rattle.message_framing.specs.declared.head.Head.{Head}
 use Rattle.message_framing.proofs.HeadTextLemmas.{scan_head}
@@ -137,7 +139,7 @@ judged (at.Chunked body) i b piece head n c is none line stands h =
       start = length w;
       head = subst (λ (g : Framing). EndsHead w (length w) body.request g) h.2.0
           (subst (λ (r : Parts). EndsHead w (length w) r h.0.framing) (sym h.2.1) alone.head);
-      fed = subst (λ (t : List ℕ). IsFed body.chunks t) (sym alone.nothing) h.2.2;
+      fed = subst (λ (t : List ℕ). HasRead body.chunks t) (sym alone.nothing) h.2.2;
     })
 judged (at.Whole r) i b piece head n c is none line stands h =
     let w : List ℕ = b ++ take n piece in
@@ -156,18 +158,20 @@ judged (at.Refused f) i b piece head n c is none line stands h =
 judged at.Lacking i b piece head n c is none line stands h =
     let w : List ℕ = b ++ take n piece in
     let alone : HeadAlone w h.0.request h.0.framing = head_alone w head _ _ (c.whole ∙ ap Some (sym c.size)) is h.1 in
-    let found = ends_head_is w (length w) _ _ alone.head in
-    record {
-      some = omega (arith, c.some, c.inside, length-take n piece);
-      wanting = none.0;
-      n = length w;
-      head = found.0;
-      end = alone.head.end;
-      is_head = found.1;
-      good = found.2;
-      few = few_lines _ _ _ alone.head.head;
-      needs = subst (λ (g : Framing). NeedsMemory g (head_within b) (length w) w) (sym h.2.1 ∙ found.3) (h.2.2, none.1);
-    }
+    let found = ends_head_is w (length w) _ _ alone.head in (
+      record {
+        some = omega (arith, c.some, c.inside, length-take n piece);
+        wanting = none.0;
+        n = length w;
+        head = found.0;
+        end = alone.head.end;
+        is_head = found.1;
+        good = found.2;
+        few = few_lines _ _ _ alone.head.head;
+        needs = subst (λ (g : Framing). NeedsMemory g (length w) b (take n piece)) (sym h.2.1 ∙ found.3) (h.2.2, none.1);
+      },
+      record { line = line; at = stands },
+    )
 
 -- the piece went in whole, and the head text has not ended
 pub goes_on : (b piece : List ℕ) (line : Line) → Coming b line → length b + length piece ≤ head_limit → ends line piece ≡ None

@@ -1,7 +1,6 @@
 -- Fields and codings that are looked at one behind the other.
-use Rattle.std.proofs.Common.{◌≡◌, ◌≢◌, ℕ, ◌+◌, ◌<◌, true, false, nat_lt, List, [], ◌∷◌, ◌++◌, length, take, drop, map, slice_get, Bor, MatchOption, MatchResult, Option, None, Some, Result, Ok, Err, refl, ap, sym, ◌∙◌, arith, subst, length-append, inl, inr}
-use Rattle.std.proofs.lemmas.List.{append_assoc, append-nil, map-append, take-append-drop}
-use Rattle.std.proofs.lemmas.List.Elements.{filter-append}
+use Rattle.std.proofs.Common.{◌≡◌, ◌≢◌, ℕ, ◌+◌, ◌<◌, true, false, nat_lt, List, [], ◌∷◌, ◌++◌, length, take, drop, map, get_or, if◌then◌else◌, Bor, MatchResult, Option, None, Some, Result, Ok, Err, refl, ap, sym, ◌∙◌, arith, subst, length-append, inl, inr}
+use Rattle.std.proofs.lemmas.List.{append_assoc, append-nil, map-append, take_more}
 use Rattle.std.proofs.lemmas.Grind.{flat_map-append}
 use Rattle.std.specs.List.{flat_map}
 use Rattle.std.specs.Option.{unwrap_or}
@@ -9,7 +8,9 @@ use Rattle.rack_text.specs.Lists.{elements}
 use Rattle.std.proofs.lemmas.Bool.{lt-ltb, cases_lt, le-ltb}
 use Rattle.rack_text.specs.Case.{same_ignoring_case}
 use Rattle.rack_types.specs.Fields.{values_of}
-use Rattle.rack_types.proofs.FieldLemmas.{field_at_name, values_here}
+use Rattle.rack_types.proofs.CallerLemmas.{values_more}
+use Rattle.httparse.specs.declared.spans.HeaderSpan.{HeaderSpan}
+use Rattle.httparse.specs.Spans.{header_bytes, span_bytes}
 use Rattle.std.specs.Prelude.{codes}
 use Rattle.message_framing.specs.declared.fields.Occurs.{Occurs}
 use Rattle.message_framing.specs.declared.fields.Occurs.TheVariants.{Never, Once, Again}
@@ -20,7 +21,8 @@ use Rattle.rack_types.specs.declared.fault.Fault.{Fault}
 use Rattle.rack_types.specs.declared.fault.Fault.TheVariants.{F}
 use Rattle.rack_types.specs.declared.limits.Version.{Version}
 use Rattle.message_framing.specs.Framing.{ends_chunked, is_host_right, fields_fault, body_fault, lengths_fault, transfer_fault, stated_length, framing_by, framing_of}
-use Rattle.message_framing.specs.Found.{OccursAs, CodingsAs, StatesAs}
+use Rattle.message_framing.specs.declared.fields.Found.{Found}
+use Rattle.message_framing.specs.Found.{OccursAs, CodingsAs, CodingsFound, FoundAs, StatesAs}
 
 -- the last coding of a list with one more
 pub ends_chunked-push : (names : List (List ℕ)) (name : List ℕ) → ends_chunked (names ++ name ∷ []) ≡ same_ignoring_case name (codes "chunked")
@@ -50,10 +52,6 @@ pub record HasTaken (first : Codings) (all left : List (List ℕ)) (now : Coding
   pub split : all ≡ taken ++ left
   pub codings : (names : List (List ℕ)) → CodingsAs first names → CodingsAs now (names ++ taken)
 
--- the fields up to a place had the name so often, fewer than twice
-pub record HasFound (seen : Occurs) (values : List (List ℕ)) : Type 0 where
-  pub found : OccursAs seen values
-
 pub taken_begins : (first : Codings) (all left : List (List ℕ)) → left ≡ all → HasTaken first all left first
 taken_begins first all left is = record {
   taken = [];
@@ -76,46 +74,57 @@ taken_whole first now all left h none names before =
     let same : h.taken ≡ all = sym (h.split ∙ ap (λ w. h.taken ++ w) none ∙ append-nil h.taken) in
     subst (λ (w : List (List ℕ)). CodingsAs now (names ++ w)) same (h.codings names before)
 
--- the values of one name in fields that stand one behind the other
-pub values_of-append : (name : List ℕ) (a b : List (List ℕ × List ℕ)) → values_of name (a ++ b) ≡ values_of name a ++ values_of name b
-values_of-append name a b = ap (map (λ (f : List ℕ × List ℕ). f.1)) (filter-append (λ f. same_ignoring_case f.0 name) a b) ∙ map-append _ _ _
+-- the values of one name, with a field more that has it, and with one that has not
+pub values_with : (word : List ℕ) (fields : List (List ℕ × List ℕ)) (name value : List ℕ) → same_ignoring_case name word ≡ true
+    → values_of word (fields ++ (name, value) ∷ []) ≡ values_of word fields ++ value ∷ []
+values_with word fields name value same =
+    values_more word fields name value ∙ ap (λ b. values_of word fields ++ (if b then value ∷ [] else [])) same
+
+pub values_without : (word : List ℕ) (fields : List (List ℕ × List ℕ)) (name value : List ℕ) → same_ignoring_case name word ≡ false
+    → values_of word (fields ++ (name, value) ∷ []) ≡ values_of word fields
+values_without word fields name value other =
+    values_more word fields name value ∙ ap (λ b. values_of word fields ++ (if b then value ∷ [] else [])) other ∙ append-nil _
 
 -- the first one
-pub found_first : (values more : List (List ℕ)) (value : Bor (List ℕ)) → OccursAs Never values → more ≡ values ++ value.now ∷ [] → OccursAs (Once value) more
-found_first values more value none is = is ∙ ap (λ w. w ++ value.now ∷ []) none
+pub found_first : (seen : Occurs) (values more : List (List ℕ)) (value : Bor (List ℕ)) → seen ≡ Never → OccursAs seen values
+    → more ≡ values ++ value.now ∷ [] → OccursAs (Once value) more
+found_first seen values more value never found is =
+    let none : values ≡ [] = subst (λ (s : Occurs). OccursAs s values) never found in
+    is ∙ ap (λ w. w ++ value.now ∷ []) none
 
 -- one that is not the first
-pub found_some : (seen : Occurs) (values : List (List ℕ)) → OccursAs seen values → seen ≢ Never → 0 < length values
+found_some : (seen : Occurs) (values : List (List ℕ)) → OccursAs seen values → seen ≢ Never → 0 < length values
 found_some Never values h other = absurd (other refl)
 found_some (Once value) values h other = omega (arith, ap length h)
 found_some Again values h other = omega (arith, h)
 
--- two at least
-pub found_again : (name : List ℕ) (fields : List (List ℕ × List ℕ)) (i : ℕ) (field : List ℕ) (seen : Occurs)
-    → slice_get (map (λ f. f.0) fields) i ≡ Some field → same_ignoring_case field name ≡ true
-    → OccursAs seen (values_of name (take i fields)) → seen ≢ Never → 1 < length (values_of name fields)
-found_again name fields i field seen is same h other =
-    let at = field_at_name fields i field is in
-    let some = found_some seen _ h other in
-    let front = values_here name fields i field at.0 at.1 same in
-    let whole : values_of name fields ≡ values_of name (take (i + 1) fields) ++ values_of name (drop (i + 1) fields) =
-    ap (values_of name) (sym (take-append-drop (i + 1) fields)) ∙ values_of-append name (take (i + 1) fields) (drop (i + 1) fields) in
-    omega (
-      arith,
-      some,
-      ap length front,
-      ap length whole,
-      length-append (values_of name (take i fields)) (at.0 ∷ []),
-      length-append (values_of name (take (i + 1) fields)) (values_of name (drop (i + 1) fields)),
-    )
+pub found_again : (seen : Occurs) (values more : List (List ℕ)) (value : List ℕ) → seen ≢ Never → OccursAs seen values
+    → more ≡ values ++ value ∷ [] → OccursAs Again more
+found_again seen values more value other found is =
+    omega (arith, found_some seen values found other, ap length is, length-append values (value ∷ []))
 
--- what was found of the codings of some values: none where there is no value
-abbrev pub CodingsFound : Option Codings → List (List ℕ) → Type 0
-CodingsFound None values = values ≡ []
-CodingsFound (Some c) values = (values ≢ []) × CodingsAs c (flat_map elements values)
+-- one field more, of host and body
+pub found_with : (old new : Found) (fields : List (List ℕ × List ℕ)) (name value : List ℕ) → FoundAs old fields
+    → (OccursAs old.host (values_of (codes "host") fields) → OccursAs new.host (values_of (codes "host") (fields ++ (name, value) ∷ [])))
+    → (OccursAs old.length (values_of (codes "content-length") fields)
+    → OccursAs new.length (values_of (codes "content-length") (fields ++ (name, value) ∷ [])))
+    → (CodingsFound old.codings (values_of (codes "transfer-encoding") fields)
+    → CodingsFound new.codings (values_of (codes "transfer-encoding") (fields ++ (name, value) ∷ [])))
+    → FoundAs new (fields ++ (name, value) ∷ [])
+found_with old new fields name value h host length_is codings = record {
+  host_is = host h.host_is;
+  length_is = length_is h.length_is;
+  codings_are = codings h.codings_are;
+}
 
-pub record HasCodings (all : Option Codings) (values : List (List ℕ)) : Type 0 where
-  pub found : CodingsFound all values
+-- the fields up to a place, and the field there
+pub fields_more : (text : List ℕ) (places : List HeaderSpan) (i : ℕ) (d : HeaderSpan) (name value : List ℕ) → i < length places
+    → name ≡ span_bytes text (get_or places i d).name → value ≡ span_bytes text (get_or places i d).value
+    → map (header_bytes text) (take (i + 1) places) ≡ map (header_bytes text) (take i places) ++ (name, value) ∷ []
+fields_more text places i d name value below name_is value_is =
+    ap (map (header_bytes text)) (take_more places i d below) ∙ map-append (header_bytes text) (take i places) (get_or places i d ∷ [])
+    ∙ ap (λ n. map (header_bytes text) (take i places) ++ (n, span_bytes text (get_or places i d).value) ∷ []) (sym name_is)
+    ∙ ap (λ v. map (header_bytes text) (take i places) ++ (name, v) ∷ []) (sym value_is)
 
 no_codings : CodingsAs (record { some = false; more = false; ends_chunked = false }) []
 no_codings = record { some_is = refl; more_is = refl; last_is = refl }
@@ -142,12 +151,6 @@ codings_more (Some c) start now values more value h is longer step =
           (ap (λ w. flat_map elements values ++ w) (sym (append-nil (elements value))) ∙ sym (flat_map-append elements values (value ∷ [])) ∙ ap (flat_map elements) (sym longer))
           (step (flat_map elements values) begin),
     )
-
--- what was found, as the clause says it
-pub codings_tell : (all : Option Codings) (values : List (List ℕ)) → CodingsFound all values
-    → MatchOption all (values ≡ []) (λ c. (values ≢ []) × CodingsAs c (flat_map elements values))
-codings_tell None values h = h
-codings_tell (Some c) values h = h
 
 -- the refusal of the fields, by its parts
 pub fields_host : (version : Version) (fields : List (List ℕ × List ℕ)) → is_host_right version (values_of (codes "host") fields) ≡ false
@@ -196,22 +199,14 @@ stated_tell (Ok g) version fields right none h = (fields_plain version fields ri
 stated_tell (Err f) version fields right none h = fields_plain version fields right none ∙ h
 
 -- what Transfer-Encoding earns
-pub transfer_none : (v version : Version) (fields : List (List ℕ × List ℕ)) → is_host_right version (values_of (codes "host") fields) ≡ true
-    → values_of (codes "transfer-encoding") fields ≢ [] → v ≡ version
-    → None ≡ transfer_fault v (flat_map elements (values_of (codes "transfer-encoding") fields)) (values_of (codes "content-length") fields)
+pub transfer_none : (version : Version) (fields : List (List ℕ × List ℕ)) → is_host_right version (values_of (codes "host") fields) ≡ true
+    → values_of (codes "transfer-encoding") fields ≢ []
+    → None ≡ transfer_fault version (flat_map elements (values_of (codes "transfer-encoding") fields)) (values_of (codes "content-length") fields)
     → (fields_fault version fields ≡ None) × (Chunked ≡ framing_of fields)
-transfer_none v version fields right some same h = (
-  fields_transfer version fields right some
-      ∙ ap (λ w. transfer_fault w (flat_map elements (values_of (codes "transfer-encoding") fields)) (values_of (codes "content-length") fields)) (sym same)
-      ∙ sym h,
-  framing_chunked fields some,
-)
+transfer_none version fields right some h = (fields_transfer version fields right some ∙ sym h, framing_chunked fields some)
 
-pub transfer_some : (v version : Version) (fields : List (List ℕ × List ℕ)) (f : Fault) → is_host_right version (values_of (codes "host") fields) ≡ true
-    → values_of (codes "transfer-encoding") fields ≢ [] → v ≡ version
-    → Some f ≡ transfer_fault v (flat_map elements (values_of (codes "transfer-encoding") fields)) (values_of (codes "content-length") fields)
+pub transfer_some : (version : Version) (fields : List (List ℕ × List ℕ)) (f : Fault) → is_host_right version (values_of (codes "host") fields) ≡ true
+    → values_of (codes "transfer-encoding") fields ≢ []
+    → Some f ≡ transfer_fault version (flat_map elements (values_of (codes "transfer-encoding") fields)) (values_of (codes "content-length") fields)
     → fields_fault version fields ≡ Some f
-transfer_some v version fields f right some same h =
-    fields_transfer version fields right some
-    ∙ ap (λ w. transfer_fault w (flat_map elements (values_of (codes "transfer-encoding") fields)) (values_of (codes "content-length") fields)) (sym same)
-    ∙ sym h
+transfer_some version fields f right some h = fields_transfer version fields right some ∙ sym h

@@ -8,14 +8,16 @@ use Rattle.message_framing.specs.declared.intake.Feed.{Feed}
 use Rattle.message_framing.specs.declared.intake.Feed.TheVariants.{More, Whole, Refused}
 use Rattle.message_framing.specs.declared.intake.Intake.{Intake}
 use Rattle.message_framing.specs.declared.standing.Standing.{Standing}
-use Rattle.message_framing.specs.Intake.{Fed, IsWholeAt, taken, EndsHead, IsStated, IsChunked, FedAt, line_behind}
+use Rattle.message_framing.specs.Intake.{Fed, taken}
+use Rattle.message_framing.specs.Held.{IsWholeAt, EndsHead, IsStated, IsChunked, FedAt}
+use Rattle.message_framing.specs.FeedParts.{line_behind}
 use Rattle.message_framing.specs.declared.scan.Line.{Line}
 use Rattle.message_framing.specs.declared.scan.Line.TheVariants.{Skipping}
 use Rattle.message_framing.specs.declared.standing.ChunkedBody.{ChunkedBody}
 use Rattle.message_framing.specs.declared.standing.StatedBody.{StatedBody}
 use Rattle.message_framing.specs.Scan.{behind}
 use Rattle.message_framing.specs.Body.{IsBody, BodyRefusal}
-use Rattle.message_framing.specs.Decoding.{IsFed}
+use Rattle.message_framing.specs.Decoding.{HasRead}
 use Rattle.message_framing.specs.Request.{Refusal, IsRequest}
 use Rattle.message_framing.specs.Standing.{StatedGoesOn, ChunkedGoesOn, FeedsOn}
 use Rattle.message_framing.proofs.FedLemmas.{IsWaiting, holds, waiting_at, whole_at}
@@ -77,7 +79,7 @@ chunked_went body More new b rest line is h goes line_is =
       holds new (at.Chunked found.0) (b ++ rest) found.1 (line_is ∙ is ∙ sym (line_stays b rest h.start h.head.end)) (record {
         start = h.start;
         head = subst (λ (r : Parts). EndsHead (b ++ rest) h.start r framing.Chunked) (sym found.2) (ends_head_stays b rest h.start _ _ h.head);
-        fed = subst (λ (t : List ℕ). IsFed found.0.chunks t) (sym (drop-append-le h.start b rest inside)) (found.3 (drop h.start b) h.fed);
+        fed = subst (λ (t : List ℕ). HasRead found.0.chunks t) (sym (drop-append-le h.start b rest inside)) (found.3 (drop h.start b) h.fed);
       }),
       waiting_at _ _ found.1 tt,
     )

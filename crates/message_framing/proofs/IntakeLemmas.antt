@@ -1,6 +1,7 @@
 -- A feed by its parts.
 use Rattle.std.proofs.Common.{◌≡◌, ◌≢◌, ℕ, ◌+◌, ◌-◌, ◌<◌, ◌≤◌, true, false, List, ◌++◌, length, take, drop, Option, Some, Result, Ok, Err, refl, ap, sym, ◌∙◌, subst, arith, length-append, length-drop}
-use Rattle.std.proofs.lemmas.List.{take-append-drop, append_assoc, append-nil, take-append-le}
+use Rattle.std.proofs.lemmas.List.{take-append-drop, append_assoc, append-nil, take-append-le, drop-append-le}
+use Rattle.std.specs.Result.{IsErr}
 use Rattle.std.specs.declared.alloc.AllocError.{AllocError}
 use Rattle.rack_types.specs.Request.{Parts}
 use Rattle.message_framing.specs.declared.fields.Framing.{Framing}
@@ -12,13 +13,19 @@ use Rattle.message_framing.specs.declared.standing.StatedBody.{StatedBody}
 use Rattle.message_framing.specs.declared.standing.Standing.{Standing}
 use Rattle.message_framing.specs.HeadText.{head_text}
 use Rattle.message_framing.specs.Head.{IsHead, head_framing}
+use Rattle.message_framing.specs.Chunks.{EndsInLine}
+use Rattle.message_framing.specs.Decoding.{HasRead, LacksIn}
+use Rattle.message_framing.specs.Scan.{behind}
+use Rattle.message_framing.specs.declared.scan.Line.TheVariants.{Skipping}
 use Rattle.message_framing.specs.Request.{head_within, has_too_many_lines, IsRequest, Wanting}
 use Rattle.message_framing.specs.Standing.{StatedGoesOn, ChunkedGoesOn, FeedsOn}
-use Rattle.message_framing.specs.Intake.{EndsHead, IsChunked, FedAt, Fed, SpentAt, Spent, Lacks, IsWholeAt, IsRight, NeedsMemory, LacksRightly, TellsWhole, Answers, Refuses, FedOrLacks, from_place, line_behind, GoesOn, FeedsTo}
+use Rattle.message_framing.specs.Intake.{Fed, Spent, Lacked, Lacks, IsRight, NeedsMemory, LacksRightly, TellsWhole, Answers, Refuses, FeedsTo}
+use Rattle.message_framing.specs.Held.{EndsHead, IsChunked, FedAt, SpentAt, IsWholeAt}
+use Rattle.message_framing.specs.FeedParts.{FedOrLacks, from_place, line_behind, GoesOn}
 use Rattle.message_framing.proofs.StandingLemmas.{stated_more, stated_whole, stated_refused, stated_lacks, chunked_more, chunked_whole, chunked_refused, chunked_lacks}
 use Rattle.message_framing.proofs.RequestLemmas.{ends_at, within_append, wanting, ends_head_stays, ends_head_is}
 use Rattle.message_framing.proofs.FedLemmas.{held, holds, fed_waits, waiting_at, whole_at}
-use Rattle.message_framing.proofs.FeedHeadLemmas.{few_lines}
+use Rattle.message_framing.proofs.FeedHeadLemmas.{few_lines, line_stays}
 use Rattle.message_framing.proofs.GoOnLemmas.{Went, ok_same, went_on}
 use Rattle.message_framing.specs.declared.fields.Framing.TheVariants as framing
 use Rattle.message_framing.specs.declared.standing.Standing.TheVariants as at
@@ -31,6 +38,7 @@ pub record Started (old mid : Intake) (from : ℕ) (piece : List ℕ) : Type 0 w
   pub fed : (b : List ℕ) → Fed old b → FedOrLacks mid.standing mid b (take from piece)
   pub spent : (b : List ℕ) → Spent old b → (from ≡ 0) × Spent mid b
   pub lacks : Lacks old → Lacks mid
+  pub lacked_line : Lacks old → mid.line ≡ old.line
   pub waits : (b : List ℕ) → Fed old b → (body : ChunkedBody) → mid.standing ≡ at.Chunked body → Wanting b
 
 -- the head was whole before
@@ -41,6 +49,7 @@ started_behind old piece behind_head = record {
   fed = λ b fed. go b old.standing refl fed;
   spent = λ b spent. (refl, spent);
   lacks = λ lacks. lacks;
+  lacked_line = λ lacks. refl;
   waits = λ b fed body is. fed_waits old b fed (waiting_at _ _ is tt);
 }
   where
@@ -64,6 +73,7 @@ started_open old mid from piece is within behind_head fed = record {
   fed = fed;
   spent = λ b spent. absurd (subst (λ (s : Standing). SpentAt s b) is spent.at);
   lacks = λ lacks. absurd (let clash : at.Open ≡ at.Lacking = sym is ∙ lacks in cc);
+  lacked_line = λ lacks. absurd (let clash : at.Open ≡ at.Lacking = sym is ∙ lacks in cc);
   waits = λ b fed body chunked. fed_waits old b fed (waiting_at _ _ is tt);
 }
 
@@ -214,7 +224,6 @@ lacks_more : (b w more piece : List ℕ) → w ++ more ≡ piece → LacksRightl
 lacks_more b w more piece is h =
     let whole : (b ++ w) ++ more ≡ b ++ piece = append_assoc b w more ∙ ap (λ v. b ++ v) is in
     let inside : h.n ≤ length (b ++ w) = (ends_at (b ++ w) h.n h.end).inside in
-    let longer : length (b ++ w) ≤ length (b ++ piece) = omega (arith, ap length whole, length-append (b ++ w) more) in
     record {
       some = omega (arith, h.some, ap length is, length-append w more);
       wanting = h.wanting;
@@ -226,27 +235,52 @@ lacks_more b w more piece is h =
       is_head = subst (λ (v : List ℕ). IsHead (head_text (take h.n v)) h.head) whole
           (subst (λ (v : List ℕ). IsHead (head_text v) h.head) (sym (take-append-le h.n (b ++ w) more inside)) h.is_head);
       good = h.good;
-      needs = needs_more (head_framing h.head) (head_within b) h.n (b ++ w) (b ++ piece) longer h.needs;
+      needs = needs_more (head_framing h.head) h.n h.needs;
     }
   where
-    needs_more : (g : Framing) (before : Option ℕ) (n : ℕ) (short long : List ℕ) → length short ≤ length long → NeedsMemory g before n short
-        → NeedsMemory g before n long
-    needs_more (framing.Stated m) before n short long fits h = h
-    needs_more framing.Chunked before n short long fits h = omega (arith, h, fits)
+    needs_more : (g : Framing) (n : ℕ) → NeedsMemory g n b w → NeedsMemory g n b piece
+    needs_more (framing.Stated m) n needs = needs
+    needs_more framing.Chunked n needs =
+        let k : ℕ = needs.0 in
+        let below : k < length w = needs.1 in
+        let order : k ≤ length w = omega (arith, below) in
+        let same : take k w ≡ take k piece = sym (take-append-le k w more order) ∙ ap (take k) is in (
+          k,
+          omega (arith, below, ap length is, length-append w more),
+          subst (λ (v : List ℕ). n ≤ length (b ++ v)) same needs.2,
+          subst (λ (v : List ℕ). EndsInLine (drop n (b ++ v))) same needs.3,
+        )
+
+-- a byte of the rest is a byte of the piece
+taken_further : (b piece : List ℕ) (from k : ℕ) → (b ++ take from piece) ++ take k (drop from piece) ≡ b ++ take (from + k) piece
+taken_further b piece from k = steps_join b piece from k
 
 -- want of memory among chunks is right
-chunks_lack : (body : ChunkedBody) (mid : Intake) (b piece : List ℕ) (from : ℕ) → Wanting b → IsChunked body (b ++ take from piece)
-    → 0 < length (drop from piece) → from ≤ length piece → LacksRightly b piece
-chunks_lack body mid b piece from waits h some within =
+chunks_lack : (body : ChunkedBody) (b piece : List ℕ) (from : ℕ) → Wanting b → IsChunked body (b ++ take from piece)
+    → ((t : List ℕ) → HasRead body.chunks t → LacksIn t (drop from piece)) → from ≤ length piece → LacksRightly b piece
+chunks_lack body b piece from waits h lacks within =
     let w : List ℕ = b ++ take from piece in
-    let all : w ++ drop from piece ≡ b ++ piece = parts_join b piece from in
+    let rest : List ℕ = drop from piece in
+    let all : w ++ rest ≡ b ++ piece = parts_join b piece from in
     let head : EndsHead (b ++ piece) h.start body.request framing.Chunked =
-    subst (λ (v : List ℕ). EndsHead v h.start body.request framing.Chunked) all (ends_head_stays w (drop from piece) h.start _ _ h.head) in
+    subst (λ (v : List ℕ). EndsHead v h.start body.request framing.Chunked) all (ends_head_stays w rest h.start _ _ h.head) in
     let found = ends_head_is (b ++ piece) h.start body.request framing.Chunked head in
     let inside : h.start ≤ length w = (ends_at w h.start h.head.end).inside in
-    let beyond : h.start < length (b ++ piece) = omega (arith, inside, some, ap length all, length-append w (drop from piece)) in
+    let at = lacks (drop h.start w) h.fed in
+    let k : ℕ = at.0 in
+    let below : k < length rest = at.1 in
+    let joined : drop h.start w ++ take k rest ≡ drop h.start (b ++ take (from + k) piece) =
+    sym (drop-append-le h.start w (take k rest) inside) ∙ ap (drop h.start) (taken_further b piece from k) in
+    let longer : length w ≤ length (b ++ take (from + k) piece) =
+    omega (arith, ap length (taken_further b piece from k), length-append w (take k rest)) in
+    let needs : NeedsMemory framing.Chunked h.start b piece = (
+      from + k,
+      omega (arith, below, within, length-drop from piece),
+      omega (arith, inside, longer),
+      subst (λ (v : List ℕ). EndsInLine v) joined at.2,
+    ) in
     record {
-      some = omega (arith, some, length-drop from piece);
+      some = omega (arith, below, length-drop from piece);
       wanting = waits;
       n = h.start;
       head = found.0;
@@ -254,49 +288,70 @@ chunks_lack body mid b piece from waits h some within =
       is_head = found.1;
       good = found.2;
       few = few_lines _ _ _ head.head;
-      needs = subst (λ (g : Framing). NeedsMemory g (head_within b) h.start (b ++ piece)) found.3 beyond;
+      needs = subst (λ (g : Framing). NeedsMemory g h.start b piece) found.3 needs;
     }
+
+-- the bytes that came count
+chunks_lacked : (body : ChunkedBody) (mid new : Intake) (b piece : List ℕ) (from : ℕ) → Fed mid (b ++ take from piece)
+    → IsChunked body (b ++ take from piece) → new.standing ≡ at.Lacking → new.line ≡ mid.line → Lacked new (b ++ piece)
+chunks_lacked body mid new b piece from fed h lacks line = record {
+  line = line ∙ fed.line ∙ sym (line_stays (b ++ take from piece) (drop from piece) h.start h.head.end) ∙ ap (behind Skipping) (parts_join b piece from);
+  at = lacks;
+}
+
+-- so they do where it was refused before
+lacked_mid : (mid new : Intake) (b piece : List ℕ) (from : ℕ) → LacksRightly b (take from piece) × Lacked mid (b ++ take from piece)
+    → new.standing ≡ at.Lacking → new.line ≡ mid.line → Lacked new (b ++ piece)
+lacked_mid mid new b piece from h lacks line = record {
+  line = line ∙ h.1.line
+      ∙ sym (line_stays (b ++ take from piece) (drop from piece) h.0.n h.0.end) ∙ ap (behind Skipping) (parts_join b piece from);
+  at = lacks;
+}
 
 -- a feed to which memory is refused
 pub refuses_of : (old mid new : Intake) (from : ℕ) (piece : List ℕ) (e : AllocError) → Started old mid from piece
     → GoesOn mid from piece (Err e) new → Refuses old piece new
-refuses_of old mid new from piece e start on = go on.answer on.feeds on.result_is
+refuses_of old mid new from piece e start on = go on.answer on.feeds on.result_is on.line_is
   where
     rest : List ℕ
     rest = drop from piece
 
-    refused : (a : AllocError) → FeedsOn mid.standing rest (Err a) new.standing → Refuses old piece new
-    refused a goes = by_standing mid.standing refl goes
+    refused : (a : AllocError) → FeedsOn mid.standing rest (Err a) new.standing → new.line ≡ mid.line → Refuses old piece new
+    refused a goes line = by_standing mid.standing refl goes
       where
         by_standing : (s : Standing) → mid.standing ≡ s → FeedsOn s rest (Err a) new.standing → Refuses old piece new
         by_standing at.Open is goes = absurd (start.behind_head is)
         by_standing (at.Stated body) is goes = absurd (stated_lacks body rest a new.standing goes)
         by_standing (at.Chunked body) is goes =
             let found = chunked_lacks body rest a new.standing goes in
+            let at_mid : (b : List ℕ) → Fed old b → Fed mid (b ++ take from piece) = λ b fed.
+            subst (λ (s : Standing). FedOrLacks s mid b (take from piece)) is (start.fed b fed) in
             record {
               lacks = found.0;
-              rightly = λ b fed.
-                  (let at_mid : Fed mid (b ++ take from piece) =
-                  subst (λ (s : Standing). FedOrLacks s mid b (take from piece)) is (start.fed b fed) in
-                  chunks_lack body mid b piece from (start.waits b fed body is) (held mid (at.Chunked body) _ is at_mid) found.1 start.within);
+              came = λ b fed. chunks_lacked body mid new b piece from (at_mid b fed) (held mid (at.Chunked body) _ is (at_mid b fed)) found.0 line;
+              stays = λ b h. absurd (let clash : at.Chunked body ≡ at.Lacking = sym is ∙ start.lacks h.at in cc);
+              rightly = λ b fed. chunks_lack body b piece from (start.waits b fed body is) (held mid (at.Chunked body) _ is (at_mid b fed)) found.1 start.within;
               unspent = λ b spent. subst (λ (s : Standing). SpentAt s b) is (start.spent b spent).1.at;
             }
         by_standing (at.Whole r) is goes = absurd (let clash : ◌≡◌ {A = Result Feed AllocError} (Err a) (Ok (Whole 0)) = goes.0 in cc)
         by_standing (at.Refused f) is goes = absurd (let clash : ◌≡◌ {A = Result Feed AllocError} (Err a) (Ok (Refused f)) = goes.0 in cc)
-        by_standing at.Lacking is goes = record {
-          lacks = goes.1;
-          rightly = λ b fed.
-              lacks_more b (take from piece) (drop from piece) piece (take-append-drop from piece)
-              (subst (λ (s : Standing). FedOrLacks s mid b (take from piece)) is (start.fed b fed));
-          unspent = λ b spent. subst (λ (s : Standing). SpentAt s b) is (start.spent b spent).1.at;
-        }
+        by_standing at.Lacking is goes =
+            let at_mid : (b : List ℕ) → Fed old b → LacksRightly b (take from piece) × Lacked mid (b ++ take from piece) = λ b fed.
+            subst (λ (s : Standing). FedOrLacks s mid b (take from piece)) is (start.fed b fed) in
+            record {
+              lacks = goes.1;
+              came = λ b fed. lacked_mid mid new b piece from (at_mid b fed) goes.1 line;
+              stays = λ b h. record { line = line ∙ start.lacked_line h.at ∙ h.line; at = goes.1 };
+              rightly = λ b fed. lacks_more b (take from piece) (drop from piece) piece (take-append-drop from piece) (at_mid b fed).0;
+              unspent = λ b spent. subst (λ (s : Standing). SpentAt s b) is (start.spent b spent).1.at;
+            }
 
     go : (a : Result Feed AllocError) → FeedsOn mid.standing rest a new.standing → ◌≡◌ {A = Result Feed AllocError} (Err e) (from_place from a)
-        → Refuses old piece new
-    go (Ok More) goes is = absurd (let clash : ◌≡◌ {A = Result Feed AllocError} (Err e) (Ok More) = is in cc)
-    go (Ok (Whole n)) goes is = absurd (let clash : ◌≡◌ {A = Result Feed AllocError} (Err e) (Ok (Whole (from + n))) = is in cc)
-    go (Ok (Refused f)) goes is = absurd (let clash : ◌≡◌ {A = Result Feed AllocError} (Err e) (Ok (Refused f)) = is in cc)
-    go (Err a) goes is = refused a goes
+        → new.line ≡ line_behind a mid.line rest → Refuses old piece new
+    go (Ok More) goes is line = absurd (let clash : ◌≡◌ {A = Result Feed AllocError} (Err e) (Ok More) = is in cc)
+    go (Ok (Whole n)) goes is line = absurd (let clash : ◌≡◌ {A = Result Feed AllocError} (Err e) (Ok (Whole (from + n))) = is in cc)
+    go (Ok (Refused f)) goes is line = absurd (let clash : ◌≡◌ {A = Result Feed AllocError} (Err e) (Ok (Refused f)) = is in cc)
+    go (Err a) goes is line = refused a goes line
 
 -- the head is still coming, and the whole piece was taken
 pub answers_more : (old new : Intake) (piece : List ℕ) → old.standing ≡ at.Open → new.standing ≡ at.Open
@@ -326,3 +381,20 @@ pub feeds_to : (old mid new : Intake) (from : ℕ) (piece : List ℕ) (result : 
     → GoesOn mid from piece result new → FeedsTo old piece result new
 feeds_to old mid new from piece (Ok answer) start on = answers_of old mid new from piece answer start on
 feeds_to old mid new from piece (Err e) start on = refuses_of old mid new from piece e start on
+
+-- a request that stands, and a piece
+pub stands_on : (i : Intake) (from : ℕ) (piece : List ℕ) (r : Parts) → i.standing ≡ at.Whole r → GoesOn i from piece (Ok (Whole from)) i
+stands_on i from piece r is =
+    let all : from ≡ from + 0 = omega arith in
+    record {
+      answer = Ok (Whole 0);
+      feeds = subst (λ (s : Standing). FeedsOn s (drop from piece) (Ok (Whole 0)) i.standing) (sym is) (refl, is);
+      result_is = ap (λ n. Ok (Whole n)) all;
+      line_is = refl;
+    }
+
+-- memory is refused rightly
+pub refused_rightly : (old new : Intake) (piece b : List ℕ) (result : Result Feed AllocError) → FeedsTo old piece result new → Fed old b
+    → IsErr result → LacksRightly b piece
+refused_rightly old new piece b (Ok answer) h fed is = absurd (let clash : false ≡ true = is in cc)
+refused_rightly old new piece b (Err e) h fed is = h.rightly b fed

@@ -1,6 +1,10 @@
 pub mod AnswerLemmas
+pub mod BegunLemmas
+pub mod BoundLemmas
+pub mod CallerLemmas
 pub mod ChunkLemmas
 pub mod ChunkPartsLemmas
+pub mod CountLemmas
 pub mod DataLemmas
 pub mod DecodingLemmas
 pub mod FedLemmas
@@ -11,13 +15,14 @@ pub mod GoOnLemmas
 pub mod HeadLemmas
 pub mod HeadTextLemmas
 pub mod IntakeLemmas
+pub mod LengthLemmas
 pub mod LineEndLemmas
+pub mod OpenBodyLemmas
 pub mod PartsLemmas
 pub mod ReaderLemmas
 pub mod RequestLemmas
 pub mod ScanLemmas
 pub mod ScanPieceLemmas
-pub mod ShortLemmas
 pub mod SizeLineLemmas
 pub mod SkipLemmas
 pub mod SliceLemmas

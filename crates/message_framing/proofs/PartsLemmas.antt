@@ -1,5 +1,5 @@
 -- From the parser's places to the parts of a request.
-use Rattle.std.proofs.Common.{◌≡◌, ℕ, ◌+◌, ◌-◌, ◌≤◌, Bool, true, false, List, [], length, MatchBool, Option, None, Some, inr, refl, ap, sym, ◌∙◌, arith, subst, codes}
+use Rattle.std.proofs.Common.{◌≡◌, ℕ, ◌+◌, ◌-◌, ◌≤◌, Bool, true, false, List, [], length, map, take, MatchBool, Option, None, Some, inr, refl, ap, sym, ◌∙◌, arith, subst, codes}
 use Rattle.std.specs.Option.{option_map}
 use Rattle.std.specs.List.{slice_range}
 use Rattle.std.specs.Str.{bytes_eq}
@@ -7,19 +7,19 @@ use Rattle.httparse.specs.declared.spans.Span.{Span}
 use Rattle.httparse.specs.declared.spans.HeaderSpan.{HeaderSpan}
 use Rattle.httparse.specs.declared.spans.RequestSpans.{RequestSpans}
 use Rattle.httparse.specs.Grammar.{RequestHead}
-use Rattle.httparse.specs.Spans.{IsRequestAt, IsWithin, span_bytes}
+use Rattle.httparse.specs.Spans.{IsRequestAt, IsWithin, header_bytes, span_bytes}
 use Rattle.rack_types.specs.declared.request.Spans.{Spans}
 use Rattle.rack_types.specs.declared.fault.Fault.{Fault}
 use Rattle.rack_types.specs.declared.fault.Fault.TheVariants.{F}
 use Rattle.rack_types.specs.declared.limits.Version.{Version}
-use Rattle.rack_types.specs.Request.{IsWithinIf, Parts, framed, parts_at, path_or_root, span_bytes_if}
+use Rattle.rack_types.specs.Request.{IsWithinIf, Parts, parts_at, path_or_root, span_bytes_if}
 use Rattle.message_framing.specs.declared.fields.Framing.{Framing}
 use Rattle.message_framing.specs.declared.target.TargetSpans.{TargetSpans}
 use Rattle.message_framing.specs.HeadText.{head_text}
 use Rattle.message_framing.specs.Target.{Target, target_of}
 use Rattle.message_framing.specs.Framing.{fields_fault, framing_of}
 use Rattle.message_framing.specs.Head.{head_fault, head_framing, fields_of, is_chunked, request_with, version_of}
-use Rattle.message_framing.specs.Reads.{PartsAs, PartsTarget, ReadsHead, RefusedIn, RefusesHead, SpansTarget, StandsIn, StandsHead, shifted_by}
+use Rattle.message_framing.specs.Places.{PartsAs, PartsTarget, ReadsHead, RefusedIn, RefusesHead, SpansTarget, StandsIn, StandsHead, shifted_by}
 use Rattle.message_framing.specs.Request.{has_too_many_lines}
 use Rattle.message_framing.proofs.SliceLemmas.{slice_slice, length-slice}
 
@@ -100,12 +100,12 @@ pub record HasFields (h : RequestHead) (r : Parts) : Type 0 where
   pub version : r.version ≡ version_of h.minor
   pub fields : r.fields ≡ fields_of h
 
-fields_same : (text : List ℕ) (places : List HeaderSpan) (spans : Spans) (h : RequestHead) (r : Parts) → PartsAs text places spans h
-    → r ≡ parts_at text places spans [] false → HasFields h r
+fields_same : (text : List ℕ) (places : List HeaderSpan) (spans : Spans) (h : RequestHead) → PartsAs text places spans h
+    → HasFields h (parts_at text places spans [] false)
 unfolding request_with
-fields_same text places spans h r p made = record {
-  version = ap (λ (q : Parts). q.version) made ∙ ap (λ (q : Parts). q.version) (p.parts []);
-  fields = ap (λ (q : Parts). q.fields) made ∙ ap (λ (q : Parts). q.fields) (p.parts []);
+fields_same text places spans h p = record {
+  version = ap (λ (q : Parts). q.version) (p.parts []);
+  fields = ap (λ (q : Parts). q.fields) (p.parts []);
 }
 
 -- what its fields earn, the head earns
@@ -115,29 +115,29 @@ fault_same h t r other form same =
     fault_fields h t other form ∙ ap (λ v. fields_fault v (fields_of h)) (sym same.version) ∙ ap (fields_fault r.version) (sym same.fields)
 
 -- a head whose fields earn no refusal, and how its body is framed
-pub stands_in : (text : List ℕ) (places : List HeaderSpan) (s : RequestSpans) (spans : Spans) (r q : Parts) (g : Framing)
+pub stands_in : (text : List ℕ) (places : List HeaderSpan) (s : RequestSpans) (spans : Spans) (g : Framing)
     → ReadsHead text places s → ((h : RequestHead) → IsRequestAt text places s h → PartsAs text places spans h)
-    → r ≡ parts_at text places spans [] false → fields_fault r.version r.fields ≡ None → g ≡ framing_of r.fields
-    → q ≡ framed [] (is_chunked g) r → StandsIn text q g
-stands_in text places s spans r q g reads parts made none framing put =
+    → fields_fault spans.version (map (header_bytes text) (take spans.fields places)) ≡ None
+    → g ≡ framing_of (map (header_bytes text) (take spans.fields places)) → StandsIn text (parts_at text places spans [] (is_chunked g)) g
+stands_in text places s spans g reads parts none framing =
     let h = reads.head.0 in
     let p = parts h reads.head.2 in
-    let same = fields_same text places spans h r p made in
-    let fault : head_fault h ≡ None = fault_same h p.target r p.no_connect p.form same ∙ none in
+    let same = fields_same text places spans h p in
+    let fault : head_fault h ≡ None = fault_same h p.target _ p.no_connect p.form same ∙ none in
     let framing_is : g ≡ head_framing h = framing ∙ ap framing_of same.fields in
-    let whole : q ≡ request_with h p.target [] =
-    put ∙ ap (framed [] (is_chunked g)) made ∙ ap (λ (f : Framing). parts_at text places spans [] (is_chunked f)) framing_is ∙ p.parts [] in
+    let whole : parts_at text places spans [] (is_chunked g) ≡ request_with h p.target [] =
+    ap (λ (f : Framing). parts_at text places spans [] (is_chunked f)) framing_is ∙ p.parts [] in
     (h, reads.head.1, fault, framing_is, (p.target, p.form, whole))
 
 -- a head whose fields earn one
-pub refused_fields : (text : List ℕ) (places : List HeaderSpan) (s : RequestSpans) (spans : Spans) (r : Parts) (f : Fault)
+pub refused_fields : (text : List ℕ) (places : List HeaderSpan) (s : RequestSpans) (spans : Spans) (f : Fault)
     → ReadsHead text places s → ((h : RequestHead) → IsRequestAt text places s h → PartsAs text places spans h)
-    → r ≡ parts_at text places spans [] false → fields_fault r.version r.fields ≡ Some f → RefusedIn text f
-refused_fields text places s spans r f reads parts made some =
+    → fields_fault spans.version (map (header_bytes text) (take spans.fields places)) ≡ Some f → RefusedIn text f
+refused_fields text places s spans f reads parts some =
     let h = reads.head.0 in
     let p = parts h reads.head.2 in
-    let same = fields_same text places spans h r p made in
-    inr (h, reads.head.1, fault_same h p.target r p.no_connect p.form same ∙ some)
+    let same = fields_same text places spans h p in
+    inr (h, reads.head.1, fault_same h p.target _ p.no_connect p.form same ∙ some)
 
 -- a head that is refused before its fields
 pub refused_early : (text : List ℕ) (places : List HeaderSpan) (s : RequestSpans) (f : Fault) → ReadsHead text places s

@@ -7,16 +7,16 @@ use Rattle.message_framing.specs.declared.chunks.Chunks.{Chunks}
 use Rattle.message_framing.specs.declared.chunks.Place.{Place}
 use Rattle.message_framing.specs.declared.fields.Framing.TheVariants.{Chunked}
 use Rattle.message_framing.specs.Body.{BodyRefusal}
-use Rattle.message_framing.specs.Decoding.{IsFedAt, IsFed}
+use Rattle.message_framing.specs.Decoding.{HasReadAt, HasRead}
 use Rattle.message_framing.proofs.ChunkLemmas.{body_refusal_stays}
 use Rattle.message_framing.specs.declared.chunks.Place.TheVariants as place
 
 -- the place that the reader is at
-pub at_place : (c : Chunks) (p : Place) (b : List ℕ) → c.place ≡ p → IsFed c b → IsFedAt p c b
-at_place c p b is fed = subst (λ (q : Place). IsFedAt q c b) is fed
+pub at_place : (c : Chunks) (p : Place) (b : List ℕ) → c.place ≡ p → HasRead c b → HasReadAt p c b
+at_place c p b is fed = subst (λ (q : Place). HasReadAt q c b) is fed
 
-pub fed_at : (c : Chunks) (p : Place) (b : List ℕ) → c.place ≡ p → IsFedAt p c b → IsFed c b
-fed_at c p b is fed = subst (λ (q : Place). IsFedAt q c b) (sym is) fed
+pub fed_at : (c : Chunks) (p : Place) (b : List ℕ) → c.place ≡ p → HasReadAt p c b → HasRead c b
+fed_at c p b is fed = subst (λ (q : Place). HasReadAt q c b) (sym is) fed
 
 -- lists in a row
 pub tail_more : (line got tail more : List ℕ) → (line ++ (got ++ tail)) ++ more ≡ line ++ (got ++ (tail ++ more))

@@ -14,8 +14,8 @@ use Rattle.message_framing.specs.Head.{IsHead, IsRequestOf, head_fault, head_fra
 use Rattle.message_framing.specs.Target.{target_of}
 use Rattle.message_framing.specs.Body.{IsBody, BodyRefusal}
 use Rattle.message_framing.specs.Request.{head_limit, head_within, has_too_many_lines, FaultOrBody, HeadRefusal, TextRefusal, RefusalAt, Refusal, IsGoodHead, IsGoodText, RequestAt, IsRequest, Begins, Wanting}
-use Rattle.message_framing.specs.Reads.{StandsIn, StandsHead, RefusedIn, RefusesHead}
-use Rattle.message_framing.specs.Intake.{EndsHead}
+use Rattle.message_framing.specs.Places.{StandsIn, StandsHead, RefusedIn, RefusesHead}
+use Rattle.message_framing.specs.Held.{EndsHead}
 use Rattle.message_framing.proofs.HeadTextLemmas.{scan_head}
 use Rattle.message_framing.proofs.ScanLemmas.{ends_stays, ends_take, ends_within}
 use Rattle.message_framing.proofs.ChunkLemmas.{body_unique, body_not_refused, body_refusal_unique, body_refusal_stays}

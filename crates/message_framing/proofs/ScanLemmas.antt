@@ -1,6 +1,6 @@
 -- The scan of bytes in two parts, and its states.
 use Rattle.std.proofs.Common.{◌≡◌, ℕ, zero, suc, ◌+◌, ◌<◌, ◌≤◌, List, [], ◌∷◌, ◌++◌, length, take, Option, None, Some, option_map, refl, ap, sym, ◌∙◌, arith, ◌⊎◌, inl, inr, ◌≢◌, Bool, true, false}
-use Rattle.message_framing.specs.Scan.{next, behind, one_more, ends, fed, returned, lettered}
+use Rattle.message_framing.specs.Scan.{next, behind, one_more, ends, after_line_feed, after_return, after_letter}
 use Rattle.message_framing.specs.declared.scan.Line.{Line}
 use Rattle.message_framing.specs.declared.scan.Line.TheVariants.{Skipping, SkippingReturn, Text, Start, Return, Ended}
 use Rattle.message_framing.specs.HeadText.{skip}
@@ -93,7 +93,7 @@ left_next line b left = elim (kind_of b) [
   | letter nofeed noreturn ↦ rw (nofeed, noreturn) (lettered_left line left)
 ]
   where
-    fed_left : (line : Line) → has_left line ≡ true → has_left (fed line) ≡ true
+    fed_left : (line : Line) → has_left line ≡ true → has_left (after_line_feed line) ≡ true
     fed_left Skipping left = left
     fed_left SkippingReturn left = left
     fed_left Text left = refl
@@ -101,7 +101,7 @@ left_next line b left = elim (kind_of b) [
     fed_left Return left = refl
     fed_left Ended left = refl
 
-    returned_left : (line : Line) → has_left line ≡ true → has_left (returned line) ≡ true
+    returned_left : (line : Line) → has_left line ≡ true → has_left (after_return line) ≡ true
     returned_left Skipping left = left
     returned_left SkippingReturn left = refl
     returned_left Text left = refl
@@ -109,7 +109,7 @@ left_next line b left = elim (kind_of b) [
     returned_left Return left = refl
     returned_left Ended left = refl
 
-    lettered_left : (line : Line) → has_left line ≡ true → has_left (lettered line) ≡ true
+    lettered_left : (line : Line) → has_left line ≡ true → has_left (after_letter line) ≡ true
     lettered_left Skipping left = refl
     lettered_left SkippingReturn left = refl
     lettered_left Text left = refl

@@ -5,7 +5,7 @@ use Rattle.std.proofs.lemmas.Bool.{le-ltb, lt-ltb, le-leb, lt-leb}
 use Rattle.std.proofs.lemmas.Bool.Decides.{eqb_tells}
 use Rattle.std.proofs.Math.Seq.{take-append_seam, drop-append_seam}
 use Rattle.std.specs.List.{concat}
-use Rattle.std.specs.Prelude.{Result, Ok, Err}
+use Rattle.std.specs.Prelude.{Result, Ok, Err, vec_len, vec_capacity}
 use Rattle.std.specs.declared.alloc.AllocError.{AllocError}
 use Rattle.httparse.specs.Grammar.{ChunkLine, print_chunk_line, ReadsChunkLine}
 use Rattle.httparse.specs.Spans.{IsChunkLineAt}
@@ -13,15 +13,16 @@ use Rattle.httparse.proofs.ChunkLemmas.{chunk_line_unique}
 use Rattle.memchr.specs.Find.{Nowhere, Passes, is_byte}
 use Rattle.rack_types.specs.declared.fault.Fault.TheVariants.{F}
 use Rattle.message_framing.specs.Framing.{body_limit}
-use Rattle.message_framing.specs.Chunks.{size_line_limit, line_end, trailer_within, NamesSize, NamesNone, Front, refused, chunk_front, TrailerFront, SizeFront, LineFront, FrontIs, coming}
-use Rattle.message_framing.specs.Decoding.{IsSizeLine, OpensChunk, Steps, After, InSizeLine, AtSizeLine, InChunk, InTrailer, IsFed}
+use Rattle.message_framing.specs.Chunks.{size_line_limit, line_end, trailer_within, NamesSize, NamesNone, Front, refused, chunk_front, TrailerFront, SizeFront, LineFront, FrontIs, coming, After, EndsInLine}
+use Rattle.message_framing.specs.Decoding.{IsSizeLine, OpensChunk, Steps, InSizeLine, AtSizeLine, InChunk, InTrailer, HasRead}
 use Rattle.message_framing.specs.declared.chunks.Chunks.{Chunks}
 use Rattle.message_framing.specs.declared.fields.Framing.TheVariants.{Chunked}
+use Rattle.message_framing.specs.declared.scan.Line.{Line}
 use Rattle.message_framing.specs.declared.scan.Line.TheVariants.{Start}
 use Rattle.message_framing.specs.Scan.{behind, ends}
 use Rattle.message_framing.specs.Body.{BodyRefusal}
 use Rattle.message_framing.specs.declared.chunks.Step.{Step}
-use Rattle.message_framing.proofs.LineEndLemmas.{line_within, line_end_more, line_end_take, take_past}
+use Rattle.message_framing.proofs.LineEndLemmas.{line_within, line_end_stays, line_end_more, line_end_take, take_past}
 use Rattle.message_framing.proofs.ChunkLemmas.{after_more, after_refused}
 use Rattle.message_framing.proofs.ScanPieceLemmas.{NoFeedBelow, none_below}
 use Rattle.message_framing.proofs.ReaderLemmas.{refused_in_piece}
@@ -151,8 +152,9 @@ last_begins old new b h is bytes empty = record {
 
 -- the size line of another
 pub chunk_begins : (old new : Chunks) (b : List ℕ) (size : ℕ) → AtSizeLine old b → NamesSize old.text.items size → 0 < size
-    → size ≤ body_limit - length old.bytes.items → new.bytes.items ≡ old.bytes.items → new.text.items ≡ [] → InChunk new size [] b
-chunk_begins old new b size h is some fits bytes empty =
+    → size ≤ body_limit - length old.bytes.items → new.bytes.items ≡ old.bytes.items → new.text.items ≡ []
+    → vec_len new.bytes + size ≤ vec_capacity new.bytes → InChunk new size [] b
+chunk_begins old new b size h is some fits bytes empty room =
     let all : size ≡ 0 + size = omega arith in
     record {
       pieces = h.pieces;
@@ -164,6 +166,7 @@ chunk_begins old new b size h is some fits bytes empty =
       data_is = bytes ∙ h.data_is ∙ sym (append-nil (concat h.pieces));
       sum = omega (arith, fits, ap length h.data_is, h.sum);
       empty = empty;
+      room = room;
     }
 
 -- where memchr found no line feed
@@ -241,12 +244,26 @@ line_is_long c b piece near m h is none room long =
 
 -- a step that began a chunk, or was refused at its size line
 pub begins_step : (old mid new : Chunks) (piece : List ℕ) (n : ℕ) (result : Result Step AllocError) → OpensChunk mid n result new
-    → 0 < n → n ≤ length piece → ((b : List ℕ) → IsFed old b → AtSizeLine mid (b ++ take n piece)) → Steps old piece result new
-begins_step old mid new piece n (Ok (step.On m)) h some fits at = (
+    → 0 < n → n ≤ length piece → ((b : List ℕ) → HasRead old b → AtSizeLine mid (b ++ take n piece)) → ((b : List ℕ) → HasRead old b → EndsInLine b)
+    → Steps old piece result new
+begins_step old mid new piece n (Ok (step.On m)) h some fits at inside = (
   omega (arith, h.0),
   omega (arith, h.0),
-  λ b fed. subst (λ (k : ℕ). IsFed new (b ++ take k piece)) h.0 (h.1 (b ++ take n piece) (at b fed)),
+  λ b fed. subst (λ (k : ℕ). HasRead new (b ++ take k piece)) h.0 (h.1 (b ++ take n piece) (at b fed)),
 )
-begins_step old mid new piece n (Ok (step.Whole m)) h some fits at = absurd h
-begins_step old mid new piece n (Ok (step.Refused f)) h some fits at = λ b fed. refused_in_piece b piece n f (h (b ++ take n piece) (at b fed))
-begins_step old mid new piece n (Err e) h some fits at = tt
+begins_step old mid new piece n (Ok (step.Whole m)) h some fits at inside = absurd h
+begins_step old mid new piece n (Ok (step.Refused f)) h some fits at inside = λ b fed. refused_in_piece b piece n f (h (b ++ take n piece) (at b fed))
+begins_step old mid new piece n (Err e) h some fits at inside = inside
+
+-- inside a size line
+pub size_line_ends : (c : Chunks) (b : List ℕ) → InSizeLine c b → EndsInLine b
+size_line_ends c b h = (h.pieces, c.text.items, h.after, inl h.unended)
+
+-- inside the trailer
+pub trailer_ends_in : (c : Chunks) (state : Line) (b : List ℕ) → InTrailer c state b → EndsInLine b
+trailer_ends_in c state b h = (
+  h.pieces,
+  h.line ++ c.text.items,
+  h.after,
+  inr (length h.line, line_end_stays h.line c.text.items (length h.line) h.size.end, subst (λ (w : List ℕ). NamesSize w 0) (sym (take-append_seam h.line c.text.items)) h.size.names),
+)

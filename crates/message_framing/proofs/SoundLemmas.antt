@@ -16,8 +16,10 @@ use Rattle.rack_types.specs.Fields.{values_of}
 use Rattle.rack_types.specs.Request.{Parts, path_or_root}
 use Rattle.rack_types.specs.Rules.{begins_with_slash}
 use Rattle.message_framing.specs.HeadText.{head_text}
-use Rattle.message_framing.specs.Head.{head_fault, fault_with, fields_of, version_of, request_with}
+use Rattle.message_framing.specs.declared.fields.Framing.{Framing}
+use Rattle.message_framing.specs.Head.{IsHead, IsRequestOf, head_fault, fault_with, fields_of, version_of, request_with}
 use Rattle.message_framing.specs.Framing.{body_limit, is_host_right, length_fault, lengths_fault, transfer_fault, body_fault, fields_fault}
+use Rattle.message_framing.specs.Places.{StandsIn}
 use Rattle.message_framing.specs.Target.{Target, target_of, absolute, from_path, ends_authority, is_question, is_target_byte, scheme_len}
 use Rattle.message_framing.specs.Request.{has_too_many_lines, IsGoodHead, IsRequest}
 use Rattle.message_framing.proofs.RequestLemmas.{request_head}
@@ -165,17 +167,23 @@ head_right h target is none = go (bytes_eq h.method (codes "CONNECT")) none
     go true none = absurd (let clash : Some (F 4) ≡ None = none in cc)
     go false none = fields_right (version_of h.minor) (fields_of h) (sym (ap (λ (o : Option Target). fault_with o h) is) ∙ none)
 
+-- a head that earns no refusal has what the rules of an environment rest on, whatever its body is
+head_sound : (h : RequestHead) (text body : List ℕ) (r : Parts) → IsHead text h → head_fault h ≡ None → IsRequestOf h body r → IsSound r
+unfolding request_with
+head_sound h text body r head none of =
+    subst (λ (q : Parts). IsSound q) (sym of.2) (record {
+      method = is_token_so h.method head.0.0.method;
+      path = path_right h.method h.target of.0 of.1;
+      length = head_right h of.0 of.1 none;
+    })
+
+-- the request of a head that stands
+pub stands_sound : (text : List ℕ) (r : Parts) (g : Framing) → StandsIn text r g → IsSound r
+stands_sound text r g stands = head_sound stands.0 text [] r stands.1 stands.2 stands.4
+
 -- a request of a head that earns no refusal
 good_sound : (text body : List ℕ) (r : Parts) → IsGoodHead text body r → IsSound r
-unfolding request_with
-good_sound text body r good =
-    let h = good.0 in
-    let of = good.5 in
-    subst (λ (q : Parts). IsSound q) (sym of.2) (record {
-      method = is_token_so h.method good.2.0.0.method;
-      path = path_right h.method h.target of.0 of.1;
-      length = head_right h of.0 of.1 good.3;
-    })
+good_sound text body r good = head_sound good.0 text good.1 r good.2 good.3 good.5
 
 pub request_sound : (b : List ℕ) (r : Parts) → IsRequest b r → IsSound r
 request_sound b r is =

@@ -10,7 +10,7 @@ use Rattle.rack_types.specs.Request.{IsWithinIf, path_or_root, span_bytes_if}
 use Rattle.rack_types.specs.Rules.{begins_with_slash}
 use Rattle.message_framing.specs.Target.{Target, absolute, ends_authority, from_path, is_question, is_target_byte, scheme_len, target_of}
 use Rattle.message_framing.specs.declared.target.TargetSpans.{TargetSpans}
-use Rattle.message_framing.specs.Reads.{SpansTarget}
+use Rattle.message_framing.specs.Places.{SpansTarget}
 use Rattle.message_framing.proofs.HeadLemmas.{path_at, query_at, whole_rest}
 use Rattle.message_framing.proofs.SliceLemmas.{slice_front}
 

@@ -11,9 +11,9 @@ use Rattle.message_framing.specs.declared.scan.Line.{Line}
 use Rattle.message_framing.specs.declared.scan.Line.TheVariants.{Start}
 use Rattle.message_framing.specs.Scan.{behind, ends}
 use Rattle.message_framing.specs.Framing.{body_limit}
-use Rattle.message_framing.specs.Chunks.{trailer_limit, trailer_end, trailer_within, coming, refused, TrailerText, TrailerFront, FrontIs}
+use Rattle.message_framing.specs.Chunks.{trailer_limit, trailer_end, trailer_within, coming, refused, TrailerText, TrailerFront, FrontIs, After}
 use Rattle.message_framing.specs.Body.{IsBody, BodyRefusal}
-use Rattle.message_framing.specs.Decoding.{After, IsSizeLine, InTrailer, trailer_front, TrailerFault}
+use Rattle.message_framing.specs.Decoding.{IsSizeLine, InTrailer, trailer_front, TrailerFault}
 use Rattle.message_framing.proofs.LineEndLemmas.{trailer_end_is, take_past}
 use Rattle.message_framing.proofs.ChunkLemmas.{after_more, after_last, after_refused}
 use Rattle.message_framing.proofs.ScanLemmas.{ends_append, ends_within, ends_take, behind_append}

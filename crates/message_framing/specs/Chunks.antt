@@ -122,3 +122,15 @@ unfoldable pub ChunksRefused : List (List ℕ) → ℕ → List ℕ → Fault �
 ChunksRefused [] sum b f = FrontIs sum b (refused f)
 ChunksRefused (bytes ∷ more) sum b f =
     (n : ℕ) × FrontIs sum b (chunk n bytes) × ChunksRefused more (sum + length bytes) (drop n b) f
+
+-- b is chunks of these data, and then rest; the chunks before b have `sum` bytes of data
+unfoldable pub After : List (List ℕ) → ℕ → List ℕ → List ℕ → Type 0
+After [] sum b rest = b ≡ rest
+After (bytes ∷ more) sum b rest = (n : ℕ) × FrontIs sum b (chunk n bytes) × After more (sum + length bytes) (drop n b) rest
+
+-- b ends inside a size line, or in the trailer: whole chunks, and then a line that has not ended, or a
+-- size line that names 0 and some bytes more
+abbrev pub EndsInLine : List ℕ → Type 0
+EndsInLine b =
+    (pieces : List (List ℕ)) × (rest : List ℕ) × After pieces 0 b rest
+    × ((line_end rest ≡ None) ⊎ ((n : ℕ) × (line_end rest ≡ Some n) × NamesSize (take n rest) 0))

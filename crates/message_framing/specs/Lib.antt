@@ -1,12 +1,14 @@
 pub mod Body
 pub mod Chunks
 pub mod Decoding
+pub mod FeedParts
 pub mod Found
 pub mod Framing
 pub mod Head
 pub mod HeadText
+pub mod Held
 pub mod Intake
-pub mod Reads
+pub mod Places
 pub mod Request
 pub mod Scan
 pub mod Standing

@@ -1,5 +1,5 @@
 -- Where a request begins and ends, and what is refused: relations on whole byte lists.
-use Rattle.std.specs.Prelude.{◌≡◌, ℕ, ◌<◌, ◌≤◌, ◌⊎◌, Bool, nat_lt, MatchBool, List, length, take, drop, Option, None, Some}
+use Rattle.std.specs.Prelude.{◌≡◌, ℕ, ◌+◌, ◌*◌, ◌<◌, ◌≤◌, ◌⊎◌, Bool, nat_lt, MatchBool, List, length, take, drop, Option, None, Some}
 use Rattle.httparse.specs.Grammar.{RequestHead}
 use Rattle.rack_types.specs.declared.fault.Fault.{Fault}
 use Rattle.rack_types.specs.declared.fault.Fault.TheVariants.{F}
@@ -80,3 +80,9 @@ Wanting b = ((n : ℕ) (r : Parts) → ¬ (Begins b n r)) × ((f : Fault) → ¬
 -- b has begun: it has more than whole empty lines
 abbrev pub Begun : List ℕ → Type 0
 Begun b = skip b < length b
+
+-- the most bytes in which nothing stands: a head, chunks of one byte with the longest size lines, and what came
+-- of a last size line and of the trailer behind it
+abbrev pub waiting_limit : ℕ
+waiting_limit =
+    head_limit + stock_limits.body * (stock_limits.size_line + 3) + stock_limits.size_line + stock_limits.trailer

@@ -5,35 +5,35 @@ use Rattle.message_framing.specs.declared.scan.Line.{Line}
 use Rattle.message_framing.specs.declared.scan.Line.TheVariants.{Skipping, SkippingReturn, Text, Start, Return, Ended}
 
 -- behind a line feed
-abbrev pub fed : Line → Line
-fed Skipping = Skipping
-fed SkippingReturn = Skipping
-fed Text = Start
-fed Start = Ended
-fed Return = Ended
-fed Ended = Ended
+abbrev pub after_line_feed : Line → Line
+after_line_feed Skipping = Skipping
+after_line_feed SkippingReturn = Skipping
+after_line_feed Text = Start
+after_line_feed Start = Ended
+after_line_feed Return = Ended
+after_line_feed Ended = Ended
 
 -- behind a carriage return
-abbrev pub returned : Line → Line
-returned Skipping = SkippingReturn
-returned SkippingReturn = Text
-returned Text = Text
-returned Start = Return
-returned Return = Text
-returned Ended = Ended
+abbrev pub after_return : Line → Line
+after_return Skipping = SkippingReturn
+after_return SkippingReturn = Text
+after_return Text = Text
+after_return Start = Return
+after_return Return = Text
+after_return Ended = Ended
 
 -- behind any other byte
-abbrev pub lettered : Line → Line
-lettered Skipping = Text
-lettered SkippingReturn = Text
-lettered Text = Text
-lettered Start = Text
-lettered Return = Text
-lettered Ended = Ended
+abbrev pub after_letter : Line → Line
+after_letter Skipping = Text
+after_letter SkippingReturn = Text
+after_letter Text = Text
+after_letter Start = Text
+after_letter Return = Text
+after_letter Ended = Ended
 
 -- behind one more byte
 abbrev pub next : Line → ℕ → Line
-next line b = if b == lf then fed line else if b == cr then returned line else lettered line
+next line b = if b == lf then after_line_feed line else if b == cr then after_return line else after_letter line
 
 -- behind some more bytes
 unfoldable pub behind : Line → List ℕ → Line

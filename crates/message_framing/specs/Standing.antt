@@ -12,15 +12,15 @@ use Rattle.message_framing.specs.declared.standing.Standing.{Standing}
 use Rattle.message_framing.specs.declared.standing.Standing.TheVariants as at
 use Rattle.message_framing.specs.HeadText.{head_text}
 use Rattle.message_framing.specs.Body.{IsBody, BodyRefusal}
-use Rattle.message_framing.specs.Reads.{StandsHead, RefusesHead}
-use Rattle.message_framing.specs.Decoding.{IsFed}
+use Rattle.message_framing.specs.Places.{StandsHead, RefusesHead}
+use Rattle.message_framing.specs.Decoding.{HasRead, LacksIn}
 
 -- what stands behind a head that earns no refusal
 abbrev pub Opens : Head → Standing → Type 0
 Opens head at.Open = ⊥
 Opens head (at.Stated body) =
     (head.framing ≡ framing.Stated body.length) × (body.request ≡ head.request) × (body.bytes.items ≡ [])
-Opens head (at.Chunked body) = (head.framing ≡ framing.Chunked) × (body.request ≡ head.request) × IsFed body.chunks []
+Opens head (at.Chunked body) = (head.framing ≡ framing.Chunked) × (body.request ≡ head.request) × HasRead body.chunks []
 Opens head (at.Whole r) = (head.framing ≡ framing.Stated 0) × (r ≡ head.request)
 Opens head (at.Refused f) = ⊥
 Opens head at.Lacking = (n : ℕ) × (head.framing ≡ framing.Stated n) × (0 < n)
@@ -37,13 +37,13 @@ StatedGoesOn old piece answer standing = ⊥
 -- chunks behind a piece
 abbrev pub ChunkedGoesOn : ChunkedBody → List ℕ → Result Feed AllocError → Standing → Type 0
 ChunkedGoesOn old piece (Ok More) (at.Chunked body) =
-    (body.request ≡ old.request) × ((b : List ℕ) → IsFed old.chunks b → IsFed body.chunks (b ++ piece))
+    (body.request ≡ old.request) × ((b : List ℕ) → HasRead old.chunks b → HasRead body.chunks (b ++ piece))
 ChunkedGoesOn old piece (Ok (Whole n)) (at.Whole r) =
-    (n ≤ length piece) × ((b : List ℕ) → IsFed old.chunks b → IsBody framing.Chunked (b ++ take n piece) r.body)
+    (n ≤ length piece) × ((b : List ℕ) → HasRead old.chunks b → IsBody framing.Chunked (b ++ take n piece) r.body)
     × (r ≡ framed r.body true old.request)
 ChunkedGoesOn old piece (Ok (Refused f)) (at.Refused g) =
-    (f ≡ g) × ((b : List ℕ) → IsFed old.chunks b → BodyRefusal framing.Chunked (b ++ piece) f)
-ChunkedGoesOn old piece (Err e) at.Lacking = 0 < length piece
+    (f ≡ g) × ((b : List ℕ) → HasRead old.chunks b → BodyRefusal framing.Chunked (b ++ piece) f)
+ChunkedGoesOn old piece (Err e) at.Lacking = (b : List ℕ) → HasRead old.chunks b → LacksIn b piece
 ChunkedGoesOn old piece answer standing = ⊥
 
 -- what stands behind a piece, by what stood; a head that is still coming is left as it is

@@ -1,13 +1,13 @@
 // The chunks of a body and the trailer behind them, read piece by piece.
 ghost use Rattle.std.specs.Prelude.{◌≡◌, ◌<◌, ◌≤◌, ℕ, List, [], length, Ok, IfSome, IfNone, MatchBool};
 ghost use Rattle.message_framing.specs.Chunks.{NamesSize, NamesNone, IsTrailer, IsNoTrailer, has_too_many_fields};
-ghost use Rattle.message_framing.specs.Decoding.{IsFed, Reads, Steps, OpensChunk, TrailerFault};
+ghost use Rattle.message_framing.specs.Decoding.{HasRead, FeedsChunks, Steps, OpensChunk, TrailerFault};
 
 use crate::Feed;
-use crate::scan::{Line, prefix, suffix};
+use crate::scan::{Line, count_line_feeds, prefix, suffix};
 use httparse::spans::{EMPTY_HEADER_SPAN, parse_headers};
 use httparse::{Status, parse_chunk_size};
-use memchr::{memchr, memchr_iter};
+use memchr::memchr;
 use rack_types::{Fault, NoMemory};
 use std::alloc::Global;
 
@@ -60,7 +60,7 @@ pub(crate) struct Chunks {
 impl Chunks {
     /// A reader that was fed nothing. It takes no memory.
     pub(crate) fn new(alloc: Global) -> Chunks
-        ensures { IsFed result [] }
+        ensures { HasRead result [] }
     {
         Chunks {
             bytes: Vec::new(alloc),
@@ -79,7 +79,7 @@ impl Chunks {
     /// Adds a piece to the bytes so far, and tells what stands then, as `Intake::feed` does, until
     /// something stands.
     pub(crate) fn feed(&mut self, piece: &[u8]) -> Result<Feed, NoMemory>
-        ensures { Reads self.old piece.now result self.new }
+        ensures { FeedsChunks self.old piece.now result self.new }
     {
         let mut at = 0;
         while at < piece.len() {
@@ -248,7 +248,7 @@ fn trailer_fault(text: &[u8]) -> Option<Fault>
 fn has_too_many_fields(text: &[u8]) -> bool
     ensures { result ≡ has_too_many_fields text.now }
 {
-    memchr_iter(b'\n', text).count().saturating_sub(1) > LINES_LIMIT
+    count_line_feeds(text).saturating_sub(1) > LINES_LIMIT
 }
 
 // The text is a trailer and nothing else.

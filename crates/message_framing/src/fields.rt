@@ -1,14 +1,15 @@
 // What the fields of a head say of its host and of its body, and what they are refused for.
-ghost use Rattle.std.specs.Prelude.{◌≡◌, ◌≢◌, ℕ, List, [], ◌++◌, None, Some, codes, MatchOption, MatchResult};
-ghost use Rattle.std.specs.List.{flat_map};
+ghost use Rattle.std.specs.Prelude.{◌≡◌, ℕ, List, [], ◌∷◌, ◌++◌, None, Some, All, codes, length, map, MatchResult};
 ghost use Rattle.rack_text.specs.Decimal.{decimal_value};
 ghost use Rattle.rack_text.specs.Lists.{elements};
+ghost use Rattle.httparse.specs.Spans.{IsHeaderWithin, header_bytes};
 ghost use Rattle.rack_types.specs.Fields.{values_of};
 ghost use Rattle.message_framing.specs.Framing.{is_host_right, coding_fault, length_fault, transfer_fault, fields_fault, framing_of};
-ghost use Rattle.message_framing.specs.Found.{OccursAs, CodingsAs, StatesAs};
+ghost use Rattle.message_framing.specs.Found.{OccursAs, CodingsAs, CodingsFound, FoundAs, StatesAs};
 
+use httparse::spans::HeaderSpan;
 use rack_text::{elements, is_decimal, read_decimal, read_host, same_ignoring_case};
-use rack_types::{Fault, Request, Version};
+use rack_types::{Fault, Version};
 
 // The largest body.
 const BODY_LIMIT: u128 = 1_048_576;
@@ -21,6 +22,15 @@ pub(crate) enum Occurs<'a> {
     Again,
 }
 
+/// What is found of host and body in the fields of a head.
+#[derive(Clone, Copy)]
+pub(crate) struct Found<'a> {
+    host: Occurs<'a>,
+    length: Occurs<'a>,
+    // Of all Transfer-Encoding fields, in order; none where there is no such field.
+    codings: Option<Codings>,
+}
+
 /// How the body behind a head is framed.
 #[derive(Clone, Copy)]
 pub(crate) enum Framing {
@@ -30,40 +40,77 @@ pub(crate) enum Framing {
     Chunked,
 }
 
-/// How the body is framed, by what the fields say of host and body, or the least refusal that they earn.
-pub(crate) fn body_framing(request: &Request) -> Result<Framing, Fault>
+/// How the body is framed, by what the fields at these places of a head text say of host and body, or the
+/// least refusal that they earn.
+pub(crate) fn body_framing(
+    version: Version,
+    text: &[u8],
+    places: &[HeaderSpan],
+) -> Result<Framing, Fault>
+    requires { All (IsHeaderWithin (length text.now)) places.now }
     ensures { MatchResult result
-        (λ framing. (fields_fault request.now.version request.now.fields ≡ None) × (framing ≡ framing_of request.now.fields))
-        (λ fault. fields_fault request.now.version request.now.fields ≡ Some fault) }
+        (λ framing. (fields_fault version (map (header_bytes text.now) places.now) ≡ None)
+        × (framing ≡ framing_of (map (header_bytes text.now) places.now)))
+        (λ fault. fields_fault version (map (header_bytes text.now) places.now) ≡ Some fault) }
 {
-    let version = request.version();
-    if !is_host_right(version, occurs_in(request, b"host")) {
+    let found = find(text, places);
+    if !is_host_right(version, found.host) {
         return Err(Fault::F(6));
     }
-    let length = occurs_in(request, b"content-length");
-    match codings_of(request) {
-        None => stated(length),
-        Some(codings) => match transfer_fault(version, codings, length) {
+    match found.codings {
+        None => stated(found.length),
+        Some(codings) => match transfer_fault(version, codings, found.length) {
             None => Ok(Framing::Chunked),
             Some(fault) => Err(fault),
         },
     }
 }
 
-// How often a field of this name comes.
-fn occurs_in<'a>(request: &'a Request, name: &[u8]) -> Occurs<'a>
-    ensures { OccursAs result (values_of name.now request.now.fields) }
+// What the fields at these places say of host and body.
+fn find<'a>(text: &'a [u8], places: &[HeaderSpan]) -> Found<'a>
+    requires { All (IsHeaderWithin (length text.now)) places.now }
+    ensures { FoundAs result (map (header_bytes text.now) places.now) }
 {
-    let mut seen = Occurs::Never;
-    for i in 0..request.field_count() {
-        if same_ignoring_case(request.field_name(i), name) {
-            seen = match seen {
-                Occurs::Never => Occurs::Once(request.field_value(i)),
-                _ => return Occurs::Again,
-            };
+    let mut found = Found {
+        host: Occurs::Never,
+        length: Occurs::Never,
+        codings: None,
+    };
+    for i in 0..places.len() {
+        let place = places[i];
+        found = found.with(place.name.of(text), place.value.of(text));
+    }
+    found
+}
+
+impl<'a> Found<'a> {
+    // What is found with one field more.
+    fn with(self, name: &[u8], value: &'a [u8]) -> Found<'a>
+        ensures { (fields : List (List ℕ × List ℕ)) → FoundAs self.entry fields
+            → FoundAs result (fields ++ (name.now, value.now) ∷ []) }
+    {
+        Found {
+            host: self.host.with(b"host", name, value),
+            length: self.length.with(b"content-length", name, value),
+            codings: codings_with(self.codings, name, value),
         }
     }
-    seen
+}
+
+impl<'a> Occurs<'a> {
+    // How often a field of this name comes, with one field more.
+    fn with(self, wanted: &[u8], name: &[u8], value: &'a [u8]) -> Occurs<'a>
+        ensures { (fields : List (List ℕ × List ℕ)) → OccursAs self.entry (values_of wanted.now fields)
+            → OccursAs result (values_of wanted.now (fields ++ (name.now, value.now) ∷ [])) }
+    {
+        if !same_ignoring_case(name, wanted) {
+            return self;
+        }
+        match self {
+            Occurs::Never => Occurs::Once(value),
+            _ => Occurs::Again,
+        }
+    }
 }
 
 // One valid host; HTTP/1.0 may have none.
@@ -140,24 +187,20 @@ fn coding_fault(codings: Codings) -> Option<Fault>
     }
 }
 
-// The codings of all Transfer-Encoding fields in order, none where there is no such field.
-fn codings_of(request: &Request) -> Option<Codings>
-    ensures { MatchOption result (values_of (codes "transfer-encoding") request.now.fields ≡ [])
-        (λ c. (values_of (codes "transfer-encoding") request.now.fields ≢ [])
-        × CodingsAs c (flat_map elements (values_of (codes "transfer-encoding") request.now.fields))) }
+// The codings of the Transfer-Encoding fields, with one field more.
+fn codings_with(all: Option<Codings>, name: &[u8], value: &[u8]) -> Option<Codings>
+    ensures { (fields : List (List ℕ × List ℕ)) → CodingsFound all (values_of (codes "transfer-encoding") fields)
+        → CodingsFound result (values_of (codes "transfer-encoding") (fields ++ (name.now, value.now) ∷ [])) }
 {
-    let mut all: Option<Codings> = None;
-    for i in 0..request.field_count() {
-        if same_ignoring_case(request.field_name(i), b"transfer-encoding") {
-            let before = all.unwrap_or(Codings {
-                some: false,
-                more: false,
-                ends_chunked: false,
-            });
-            all = Some(before.with(request.field_value(i)));
-        }
+    if !same_ignoring_case(name, b"transfer-encoding") {
+        return all;
     }
-    all
+    let before = all.unwrap_or(Codings {
+        some: false,
+        more: false,
+        ends_chunked: false,
+    });
+    Some(before.with(value))
 }
 
 impl Codings {

@@ -7,14 +7,13 @@ ghost use Rattle.rack_types.specs.Request.{SpansFit};
 ghost use Rattle.message_framing.specs.HeadText.{head_text};
 ghost use Rattle.message_framing.specs.Head.{IsNoHead, head_fault, is_chunked, version_of};
 ghost use Rattle.message_framing.specs.Request.{has_too_many_lines};
-ghost use Rattle.message_framing.specs.Reads.{PartsAs, ReadsHead, RefusesHead, StandsHead, shifted_by};
+ghost use Rattle.message_framing.specs.Places.{PartsAs, ReadsHead, RefusesHead, StandsHead, shifted_by};
 
 use crate::fields::{Framing, body_framing};
-use crate::scan::{skip, suffix};
+use crate::scan::{count_line_feeds, skip, suffix};
 use crate::target::read_target;
 use httparse::Status;
 use httparse::spans::{HeaderSpan, RequestSpans, Span, parse_request};
-use memchr::memchr_iter;
 use rack_types::{Fault, Request, Spans, Version};
 
 // The lines that a head may have between its request line and its blank line.
@@ -43,7 +42,7 @@ fn parse_head(text: &[u8], places: &mut Vec<HeaderSpan>) -> Option<RequestSpans>
 fn has_too_many_lines(text: &[u8]) -> bool
     ensures { result ≡ has_too_many_lines text.now }
 {
-    memchr_iter(b'\n', text).count().saturating_sub(2) > LINES_LIMIT
+    count_line_feeds(text).saturating_sub(2) > LINES_LIMIT
 }
 
 /// A whole head that earns no refusal.
@@ -71,10 +70,9 @@ pub(crate) fn read_head(bytes: Vec<u8>, mut places: Vec<HeaderSpan>) -> Result<H
         return Err(Fault::F(3));
     };
     let spans = parts_of(start, text, &head, &places)?;
-    let alloc = *bytes.allocator();
-    let mut request = Request::new(bytes, places, spans, Vec::new(alloc), false);
-    let framing = body_framing(&request)?;
-    request.put_body(Vec::new(alloc), is_chunked(framing));
+    let framing = body_framing(spans.version, text, &places[..spans.fields])?;
+    let body = Vec::new(*bytes.allocator());
+    let request = Request::new(bytes, places, spans, body, is_chunked(framing));
     Ok(Head { request, framing })
 }
 

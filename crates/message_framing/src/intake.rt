@@ -1,5 +1,5 @@
 // The bytes of one request, taken in as they come.
-ghost use Rattle.std.specs.Prelude.{◌≡◌, ◌↔◌, ◌≤◌, length, vec_len, vec_capacity, [], ℕ, List, IfOk, IfSome, IsSome, IsSomeAnd, IsTrue};
+ghost use Rattle.std.specs.Prelude.{◌≡◌, ◌↔◌, ◌≤◌, length, vec_len, vec_capacity, [], ℕ, List, IfOk, IfSome, IsNone, IsSome, IsSomeAnd, IsTrue};
 ghost use Rattle.message_framing.specs.declared.standing.Standing.TheVariants as at;
 
 use crate::head::read_head;
@@ -41,7 +41,8 @@ impl Intake {
     ghost use Rattle.rack_types.specs.Input.{unread};
     ghost use Rattle.rack_types.specs.Limits.{stock_limits};
     ghost use Rattle.rack_types.specs.Request.{Parts, with_body};
-    ghost use Rattle.message_framing.specs.Intake.{Fed, Spent, IsWhole, FeedsTo, FeedsHead, GoesOn};
+    ghost use Rattle.message_framing.specs.Intake.{Fed, Spent, Lacked, Lacks, IsWhole, FeedsTo};
+    ghost use Rattle.message_framing.specs.FeedParts.{FeedsHead, GoesOn};
     ghost use Rattle.message_framing.specs.Request.{Begun, IsRequest};
     ghost use Rattle.message_framing.specs.Standing.{Judges};
 
@@ -68,9 +69,9 @@ impl Intake {
     /// are not taken. While a whole request stands it answers `Whole(0)`, and behind a refusal that
     /// refusal.
     ///
-    /// It takes memory at the end of a head that states a length above 0, for the body, and for
-    /// chunks, once a byte of them came; never for an empty piece. Where that is refused, each further
-    /// call answers so.
+    /// It takes memory at the end of a head that states a length above 0, for the body, and for chunks
+    /// at a byte of a size line or of the trailer; never for an empty piece, nor for the data of a
+    /// chunk, whose room its size line reserved. Where that is refused, each further call answers so.
     pub fn feed(&mut self, piece: &[u8]) -> Result<Feed, NoMemory>
         ensures answers { FeedsTo self.old piece.now result self.new }
     {
@@ -130,6 +131,9 @@ impl Intake {
         requires { from ≤ length piece.now }
         ensures { GoesOn self.old from piece.now result self.new }
     {
+        if let Standing::Whole(_) = &self.standing {
+            return Ok(Feed::Whole(from));
+        }
         let rest = suffix(piece, from);
         let (standing, answer) = mem::replace(&mut self.standing, Standing::Lacking).feed(rest);
         self.standing = standing;
@@ -150,6 +154,7 @@ impl Intake {
         ensures none { (b : List ℕ) (r : Parts) → Fed self.now b → IsRequest b r → IsSome result }
         ensures spent { (b : List ℕ) (r : Parts) → Spent self.now b → IsRequest b r → IsSomeAnd result (λ q. q.now ≡ with_body [] r) }
         ensures whole { IsSome result ↔ IsWhole self.now }
+        ensures lacking { Lacks self.now → IsNone result }
     {
         match &self.standing {
             Standing::Whole(request) => Some(request),
@@ -159,11 +164,12 @@ impl Intake {
 
     /// Whether the present request has begun: a byte was taken other than those of whole empty lines
     /// in front. A lone carriage return counts until its line feed comes. It holds on while a whole
-    /// request stands, and behind a refusal the bytes that are fed count too. Where memory was refused
-    /// nothing is said.
+    /// request stands, behind a refusal the bytes that are fed count too, and where memory was refused
+    /// so does the piece to which it was.
     pub fn begun(&self) -> bool
         ensures fed { (b : List ℕ) → Fed self.now b → IsTrue result ↔ Begun b }
         ensures spent { (b : List ℕ) → Spent self.now b → IsTrue result ↔ Begun b }
+        ensures lacked { (b : List ℕ) → Lacked self.now b → IsTrue result ↔ Begun b }
     {
         match self.line {
             Line::Skipping => false,
@@ -202,3 +208,11 @@ impl Intake {
         self.standing = Standing::Open;
     }
 }
+
+// An intake goes into a connection, which may go from thread to thread. That it is Send is proved here,
+// where this call is.
+fn intake_is_send() {
+    is_send::<Intake>()
+}
+
+fn is_send<T: Send>() {}

@@ -12,5 +12,6 @@ mod target;
 
 pub use intake::{Feed, Intake};
 pub use laws::{
-    one_answer_is_right, one_thing_stands, request_is_sound, what_stands, what_stands_stays,
+    lacking_has_begun, one_answer_is_right, one_thing_stands, request_is_sound, waiting_is_bounded,
+    what_stands, what_stands_stays,
 };

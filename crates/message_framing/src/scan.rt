@@ -1,9 +1,10 @@
 // Where a head or a trailer ends, found piece by piece.
-ghost use Rattle.std.specs.Prelude.{◌≡◌, ◌≤◌, length, drop, take};
+ghost use Rattle.std.specs.Prelude.{◌≡◌, ◌≤◌, length, count_by, drop, take};
+ghost use Rattle.message_framing.specs.Head.{is_line_feed};
 ghost use Rattle.message_framing.specs.HeadText.{skip};
 ghost use Rattle.message_framing.specs.Scan.{next, behind, ends};
 
-use memchr::memchr;
+use memchr::{memchr, memchr_iter};
 
 /// What the last line of the bytes so far is.
 #[derive(Clone, Copy, Debug, PartialEq, Eq)]
@@ -60,6 +61,14 @@ impl Line {
         }
         None
     }
+}
+
+// How many line feeds the bytes have. The iterator's own `count` looks at each byte by itself; counted as the
+// items of any iterator are, it goes from one line feed to the next.
+pub(crate) fn count_line_feeds(bytes: &[u8]) -> usize
+    ensures { result ≡ count_by is_line_feed bytes.now }
+{
+    Iterator::count(memchr_iter(b'\n', bytes))
 }
 
 // How many bytes the whole empty lines at the front have.

@@ -5,7 +5,7 @@ ghost use Rattle.rack_text.specs.Host.{is_valid_host};
 ghost use Rattle.httparse.specs.Spans.{IsWithin};
 ghost use Rattle.rack_types.specs.Request.{IsWithinIf, span_bytes_if};
 ghost use Rattle.rack_types.specs.Rules.{begins_with_slash};
-ghost use Rattle.message_framing.specs.Reads.{PartsTarget, SpansTarget};
+ghost use Rattle.message_framing.specs.Places.{PartsTarget, SpansTarget};
 ghost use Rattle.message_framing.specs.Target.{is_question, is_target_byte, ends_authority, scheme_len, target_of, from_path, absolute};
 
 use crate::scan::{prefix, suffix};

@@ -13,8 +13,7 @@ use Rattle.rack_outside.specs.declared.source.SourceRead.TheVariants as read
 use Rattle.message_framing.specs.declared.intake.Intake.{Intake}
 use Rattle.message_framing.specs.declared.intake.Feed.{Feed}
 use Rattle.message_framing.specs.declared.intake.Feed.TheVariants.{More, Whole, Refused}
-use Rattle.message_framing.specs.HeadText.{head_len, skip, lines_end}
-use Rattle.message_framing.specs.Request.{head_limit, Refusal, IsRequest, Begins, Wanting}
+use Rattle.message_framing.specs.Request.{Refusal, IsRequest, Begins, Wanting, waiting_limit}
 use Rattle.message_framing.specs.Intake.{Fed, IsRight, taken, FeedsTo}
 use Rattle.puma_top.specs.Stack as stack
 use Rattle.puma_top.specs.Stack.{Endpoint}
@@ -25,15 +24,7 @@ use Rattle.puma_top.specs.declared.once.Came.{Came}
 use Rattle.puma_top.specs.declared.once.Came.TheVariants as came
 use Rattle.puma_top.specs.declared.status.Status.{Status}
 use Rattle.puma_top.specs.declared.status.Status.TheVariants as status
-use Rattle.message_framing.proofs.ShortLemmas.{waiting_short}
-use Rattle.message_framing.proofs.RequestLemmas.{wanting as open_wanting, begins_unique, refusal_unique, begins_not_refused, begins_whole, begins_stays}
-
-empty : head_len [] ≡ None
-unfolding head_len skip lines_end
-empty = refl
-
-pub wanting_nil : Wanting []
-wanting_nil = let few : length {A = ℕ} [] ≤ head_limit = omega arith in open_wanting [] empty few
+use Rattle.message_framing.proofs.CallerLemmas.{waiting_bounded, begins_unique, refusal_unique, begins_not_refused, begins_whole, begins_stays}
 
 -- a request that ends in a piece begins all bytes
 pub whole_begins : (b piece : List ℕ) (n : ℕ) (r : Parts) → IsRequest (b ++ take n piece) r
@@ -177,7 +168,7 @@ feeds_more intake next count n old new f = record {
 pub feeds_within : (intake next : Intake) (count n : ℕ) (old new : Option (List ℕ)) → Feeds intake next count n More old new
     → count + n ≤ 1100000000
 feeds_within intake next count n old new f =
-    let few : length (f.bytes ++ f.piece) ≤ 1100000000 = waiting_short next (f.bytes ++ f.piece) f.fed f.right in
+    let few : length (f.bytes ++ f.piece) ≤ waiting_limit = waiting_bounded (f.bytes ++ f.piece) f.right in
     omega (arith, few, f.size, f.count_is, length-append f.bytes f.piece)
 
 -- reading stops with the piece in which something stands

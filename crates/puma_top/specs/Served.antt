@@ -1,7 +1,7 @@
 -- Which requests the stack answers. The others are answered F0 until their replies are built: a reply to
 -- HEAD has no body, and one that ends the connection says so.
 use Rattle.std.specs.Prelude.{ℕ, Bool, true, false, not, ◌&&◌, if◌then◌else◌, List, codes, bytes_eq}
-use Rattle.rack_types.specs.Fields.{values_of, persists_by}
+use Rattle.rack_types.specs.Fields.{persists}
 use Rattle.rack_types.specs.Request.{Parts}
 use Rattle.rack_types.specs.declared.fault.Fault.TheVariants.{F}
 use Rattle.rack_types.specs.declared.limits.Version.{Version}
@@ -17,7 +17,7 @@ is_served_by Http11 method persists = not (bytes_eq method (codes "HEAD")) && pe
 
 -- the stack answers the request
 abbrev pub is_served : Parts → Bool
-is_served r = is_served_by r.version r.method (persists_by r.version (values_of (codes "connection") r.fields))
+is_served r = is_served_by r.version r.method (persists r)
 
 -- what is written for a request
 abbrev pub request_reply : Endpoint → Parts → List ℕ

@@ -1,7 +1,7 @@
 // The command `once` over objects in memory, with ample memory.
 use crate::reply::fault_reply;
 use crate::{FileWhy, Status, run_quiet};
-use message_framing::{Feed, Intake};
+use message_framing::{Feed, Intake, what_stands};
 use rack_env::env_of;
 use rack_outside::{MemFiles, MemSink, MemSource};
 use rack_types::{Bytes, Fault, Limits, Local, NoMemory, Peer};
@@ -357,6 +357,22 @@ fn takes_requests_one_behind_the_other(rt: HostRuntime) -> Result<(), Fail> {
         (b"\r\n\nG".as_slice(), b"begun".as_slice()),
     ] {
         assert_eq!(rt; taken(rt.alloc(), text, 1)?.as_slice(), begun);
+    }
+    Ok(())
+}
+
+#[test]
+fn tells_what_stands(rt: HostRuntime) -> Result<(), Fail> {
+    for (text, stands) in [
+        (b"GET / HTTP/1.1\r\nHost: a\r\n".as_slice(), Feed::More),
+        (REQUEST, Feed::Whole(27)),
+        (
+            b"GET / HTTP/1.1\r\n\r\n".as_slice(),
+            Feed::Refused(Fault::F(6)),
+        ),
+    ] {
+        let intake = Intake::new(rt.alloc(), Limits::stock())?;
+        assert_eq!(rt; what_stands(intake, text)?, stands);
     }
     Ok(())
 }

@@ -5,6 +5,7 @@ use Rattle.rack_text.specs.Case.{same_ignoring_case}
 use Rattle.rack_text.specs.Lists.{list_has}
 use Rattle.rack_types.specs.declared.limits.Version.{Version}
 use Rattle.rack_types.specs.declared.limits.Version.TheVariants.{Http10, Http11}
+use Rattle.rack_types.specs.Request.{Parts}
 
 -- the values of the fields with this name, in order; the case of a name's letters does not count
 abbrev pub values_of : List ℕ → List (List ℕ × List ℕ) → List (List ℕ)
@@ -19,8 +20,10 @@ abbrev pub goes_on : Version → Bool → Bool → Bool
 goes_on Http11 close keep_alive = not close
 goes_on Http10 close keep_alive = keep_alive && not close
 
--- whether the connection may go on behind the request, by its version and its Connection fields
--- (RFC 9112, section 9.3)
-abbrev pub persists_by : Version → List (List ℕ) → Bool
-persists_by version values =
-    goes_on version (some_list_has (codes "close") values) (some_list_has (codes "keep-alive") values)
+-- a Connection field of the request asks for this
+abbrev pub asks_for : List ℕ → Parts → Bool
+asks_for word r = some_list_has word (values_of (codes "connection") r.fields)
+
+-- whether the connection may go on behind the request (RFC 9112, section 9.3)
+abbrev pub persists : Parts → Bool
+persists r = goes_on r.version (asks_for (codes "close") r) (asks_for (codes "keep-alive") r)

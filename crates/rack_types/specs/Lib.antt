@@ -8,6 +8,7 @@ pub mod Fields
 pub mod HeaderStore
 pub mod Headers
 pub mod Input
+pub mod Kept
 pub mod Lending
 pub mod Limits
 pub mod Plain

@@ -1,11 +1,10 @@
 -- What a request says: the parts of its head, and its body (RFC 9112, sections 3, 5 and 6).
-use Rattle.std.specs.Prelude.{◌≡◌, ℕ, ◌≤◌, Bool, List, [], ◌∷◌, length, take, drop, map, All, Option, None, Some, ⊤}
+use Rattle.std.specs.Prelude.{ℕ, ◌≤◌, Bool, List, [], ◌∷◌, length, take, map, All, Option, None, Some, ⊤}
 use Rattle.httparse.specs.declared.spans.Span.{Span}
 use Rattle.httparse.specs.declared.spans.HeaderSpan.{HeaderSpan}
 use Rattle.httparse.specs.Spans.{span_bytes, IsWithin, IsHeaderWithin, header_bytes}
 use Rattle.rack_types.specs.declared.limits.Version.{Version}
 use Rattle.rack_types.specs.declared.request.Spans.{Spans}
-use Rattle.rack_types.specs.Limits.{stock_limits}
 
 -- the parts of a request: a field is its name and its value, and a query that is not there is empty
 pub record Parts : Type 0 where
@@ -71,11 +70,3 @@ pub record SpansFit (head : List ℕ) (fields : List HeaderSpan) (spans : Spans)
   pub authority : IsWithinIf (length head) spans.authority
   pub count : spans.fields ≤ length fields
   pub fields_fit : All (IsHeaderWithin (length head)) (take spans.fields fields)
-
--- what a request keeps: a head, which begins behind the empty lines that were skipped, with its spans,
--- in room for any head and its fields
-pub record IsKept (room : ℕ) (head : List ℕ) (fields : List HeaderSpan) (spans : Spans) : Type 0 where
-  pub start : spans.start ≤ length head
-  pub fit : SpansFit (drop spans.start head) fields spans
-  pub room_is : stock_limits.head ≤ room
-  pub places_are : length fields ≡ stock_limits.lines

@@ -1,9 +1,10 @@
 // A request as it came, lent in parts.
 ghost use Rattle.std.specs.Prelude.{◌≡◌, ◌≤◌, ◌<◌, [], Some, codes, drop, length, map, slice_get, vec_capacity, vec_len};
 ghost use Rattle.std.specs.Option.{option_copied};
-ghost use Rattle.rack_types.specs.Fields.{goes_on, persists_by, values_of};
+ghost use Rattle.rack_types.specs.Fields.{goes_on, persists};
 ghost use Rattle.rack_types.specs.Limits.{stock_limits};
 ghost use Rattle.rack_types.specs.Request.{SpansFit, framed, parts_at, with_body};
+ghost use Rattle.rack_types.specs.Sound.{IsSound};
 
 use crate::Version;
 use httparse::spans::{HeaderSpan, Span};
@@ -32,8 +33,10 @@ pub struct Spans {
 /// A request: its head, and its body once it has come. It lends the parts of the head from the bytes that
 /// came, and copies none of them. It keeps the room of a head, which a later request can use.
 ///
-/// A contract sees it as its `Parts`. What is said below of the form of a part holds of each request
-/// that an intake gives.
+/// A contract sees it as its `Parts`. They are such as the rules of an environment rest on: the method is
+/// a token, the path begins with `/` or is the `*` of OPTIONS, and there is one Content-Length at most,
+/// which is decimal (`soundness`). What is said below of the form of another part holds of each request that
+/// an intake gives.
 #[derive(Drop)]
 pub struct Request {
     head: Vec<u8>,
@@ -45,18 +48,20 @@ pub struct Request {
 
 impl Model for Request {
     ghost use Rattle.std.specs.Prelude.{drop, vec_capacity};
-    ghost use Rattle.rack_types.specs.Request.{IsKept, Parts, parts_at};
+    ghost use Rattle.rack_types.specs.Kept.{IsKept};
+    ghost use Rattle.rack_types.specs.Request.{Parts, parts_at};
 
     ghost Value = { Parts };
 
     ghost view = { λ r. parts_at (drop r.spans.start r.head.items) r.fields.items r.spans r.body.items r.chunked };
 
-    ghost invariant = { λ r. IsKept (vec_capacity r.head) r.head.items r.fields.items r.spans };
+    ghost invariant = { λ r. IsKept (vec_capacity r.head) r.head.items r.fields.items r.spans r.body.items r.chunked };
 }
 
 impl Request {
-    /// The request whose head has these parts, with this body. The head has the room of any head, and
-    /// the fields as many places as a head may have. It takes no memory.
+    /// The request whose head has these parts, with this body. The head has the room of any head, the
+    /// fields as many places as a head may have, and the parts are such as message framing takes. It takes
+    /// no memory.
     pub fn new(
         head: Vec<u8>,
         fields: Vec<HeaderSpan>,
@@ -68,6 +73,7 @@ impl Request {
         requires fit { SpansFit (drop spans.start head.items) fields.items spans }
         requires room { stock_limits.head ≤ vec_capacity head }
         requires places { vec_len fields ≡ stock_limits.lines }
+        requires sound { IsSound (parts_at (drop spans.start head.items) fields.items spans body.items chunked) }
         ensures { result ≡ parts_at (drop spans.start head.items) fields.items spans body.items chunked }
     {
         Request {
@@ -77,6 +83,14 @@ impl Request {
             body,
             chunked,
         }
+    }
+
+    /// What the rules of an environment rest on holds of each request. Called where a proof needs this,
+    /// it does nothing when it runs.
+    pub fn soundness(&self)
+        ensures { IsSound self.now }
+    {
+        let _ = &self.chunked;
     }
 
     /// The method, a token.
@@ -188,7 +202,7 @@ impl Request {
     /// unless a Connection field has `close`, in HTTP/1.0 only where one has `keep-alive` and none
     /// has `close`.
     pub fn persists(&self) -> bool
-        ensures { result ≡ persists_by self.now.version (values_of (codes "connection") self.now.fields) }
+        ensures { result ≡ persists self.now }
     {
         let mut close = false;
         let mut keep_alive = false;
@@ -220,3 +234,11 @@ fn text_of(head: &[u8], start: usize) -> &[u8]
 {
     &head[start..]
 }
+
+// A request goes into a connection, which may go from thread to thread. That it is Send is proved here,
+// where this call is.
+fn request_is_send() {
+    is_send::<Request>()
+}
+
+fn is_send<T: Send>() {}

@@ -1,9 +1,7 @@
-use Rattle.std.proofs.Common.{ap, ◌∙◌, nat_lt, ◌-◌, length}
-use Rattle.memchr.specs.Find.{is_byte}
-use Rattle.memchr.proofs.lemmas.CallerLemmas.{length-places}
+use Rattle.std.proofs.Common.{ap, ◌∙◌, nat_lt, ◌-◌}
 use Rattle.message_framing.specs.Chunks.{has_too_many_fields}
 use Rattle.message_framing.proofs.chunks.has_too_many_fields.Goals as goal
 
 pub returns : goal.returns
 unfolding has_too_many_fields
-returns c = ap (nat_lt 64) (c.saturating_sub.ensures ∙ ap (λ n. n - 1) (c.count.ensures ∙ ap length c.memchr_iter.ensures.value ∙ length-places (is_byte 10) c.args.text.now))
+returns c = ap (nat_lt 64) (c.saturating_sub.ensures ∙ ap (λ n. n - 1) c.count_line_feeds.ensures)

@@ -1,36 +1,42 @@
-use Rattle.std.proofs.Common.{ap, sym, ◌∙◌, ◌≡◌, true, false, codes}
+use Rattle.std.proofs.Common.{sym, ◌∙◌, ◌≡◌, true, false, [], map, codes, subst, Option, Some, None}
+use Rattle.std.specs.List.{flat_map}
+use Rattle.httparse.specs.Spans.{header_bytes}
+use Rattle.rack_text.specs.Lists.{elements}
 use Rattle.rack_types.specs.Fields.{values_of}
+use Rattle.message_framing.specs.declared.fields.Codings.{Codings}
+use Rattle.message_framing.specs.Found.{CodingsAs, CodingsFound}
 use Rattle.message_framing.specs.Framing.{is_host_right}
 use Rattle.message_framing.proofs.FieldLemmas.{fields_host, stated_tell, transfer_none, transfer_some}
 use Rattle.message_framing.proofs.fields.body_framing.Goals as goal
 
 pub returns-then-not-is_host_right : goal.returns-then-not-is_host_right
 returns-then-not-is_host_right c =
-    let wrong : is_host_right c.args.request.now.version (values_of (codes "host") c.args.request.now.fields) ≡ false =
-    ap (λ v. is_host_right v (values_of (codes "host") c.args.request.now.fields)) (sym c.version-version.ensures)
-    ∙ sym (c.is_host_right.ensures _ c.occurs_in.ensures) ∙ c.if-not-is_host_right.true in
-    fields_host c.args.request.now.version c.args.request.now.fields wrong
+    let fields = map (header_bytes c.args.text.now) c.args.places.now in
+    let wrong : is_host_right c.args.version (values_of (codes "host") fields) ≡ false =
+    sym (c.is_host_right.ensures _ c.find-found.ensures.host_is) ∙ c.if-not-is_host_right.true in
+    fields_host c.args.version fields wrong
 
 pub returns-in-None : goal.returns-in-None
 returns-in-None c =
-    let right : is_host_right c.args.request.now.version (values_of (codes "host") c.args.request.now.fields) ≡ true =
-    ap (λ v. is_host_right v (values_of (codes "host") c.args.request.now.fields)) (sym c.version-version.ensures)
-    ∙ sym (c.is_host_right.ensures _ c.occurs_in.ensures) ∙ c.if-not-is_host_right.false in
-    stated_tell c.stated.result c.args.request.now.version c.args.request.now.fields right c.in-None.ensures (c.stated.ensures _ c.occurs_in-length.ensures)
+    let fields = map (header_bytes c.args.text.now) c.args.places.now in
+    let right : is_host_right c.args.version (values_of (codes "host") fields) ≡ true =
+    sym (c.is_host_right.ensures _ c.find-found.ensures.host_is) ∙ c.if-not-is_host_right.false in
+    let none : values_of (codes "transfer-encoding") fields ≡ [] =
+    subst (λ (o : Option Codings). CodingsFound o (values_of (codes "transfer-encoding") fields)) c.in-None.is c.find-found.ensures.codings_are in
+    stated_tell c.stated.result c.args.version fields right none (c.stated.ensures _ c.find-found.ensures.length_is)
 
 pub returns-in-None-transfer_fault : goal.returns-in-None-transfer_fault
 returns-in-None-transfer_fault c =
-    let right : is_host_right c.args.request.now.version (values_of (codes "host") c.args.request.now.fields) ≡ true =
-    ap (λ v. is_host_right v (values_of (codes "host") c.args.request.now.fields)) (sym c.version-version.ensures)
-    ∙ sym (c.is_host_right.ensures _ c.occurs_in.ensures) ∙ c.if-not-is_host_right.false in
-    let earned = c.in-None-transfer_fault.ensures _ _ c.in-Some.ensures.1 c.occurs_in-length.ensures in
-    transfer_none c.version-version.result c.args.request.now.version c.args.request.now.fields right c.in-Some.ensures.0 c.version-version.ensures earned
+    let fields = map (header_bytes c.args.text.now) c.args.places.now in
+    let right : is_host_right c.args.version (values_of (codes "host") fields) ≡ true =
+    sym (c.is_host_right.ensures _ c.find-found.ensures.host_is) ∙ c.if-not-is_host_right.false in
+    let some = subst (λ (o : Option Codings). CodingsFound o (values_of (codes "transfer-encoding") fields)) c.in-Some.is c.find-found.ensures.codings_are in
+    transfer_none c.args.version fields right some.0 (c.in-None-transfer_fault.ensures _ _ some.1 c.find-found.ensures.length_is)
 
 pub returns-in-Some-transfer_fault : goal.returns-in-Some-transfer_fault
 returns-in-Some-transfer_fault c =
-    let right : is_host_right c.args.request.now.version (values_of (codes "host") c.args.request.now.fields) ≡ true =
-    ap (λ v. is_host_right v (values_of (codes "host") c.args.request.now.fields)) (sym c.version-version.ensures)
-    ∙ sym (c.is_host_right.ensures _ c.occurs_in.ensures) ∙ c.if-not-is_host_right.false in
-    let earned = c.in-Some-transfer_fault.ensures _ _ c.in-Some.ensures.1 c.occurs_in-length.ensures in
-    transfer_some c.version-version.result c.args.request.now.version c.args.request.now.fields c.in-Some-transfer_fault.fault right c.in-Some.ensures.0
-    c.version-version.ensures earned
+    let fields = map (header_bytes c.args.text.now) c.args.places.now in
+    let right : is_host_right c.args.version (values_of (codes "host") fields) ≡ true =
+    sym (c.is_host_right.ensures _ c.find-found.ensures.host_is) ∙ c.if-not-is_host_right.false in
+    let some = subst (λ (o : Option Codings). CodingsFound o (values_of (codes "transfer-encoding") fields)) c.in-Some.is c.find-found.ensures.codings_are in
+    transfer_some c.args.version fields c.in-Some-transfer_fault.fault right some.0 (c.in-Some-transfer_fault.ensures _ _ some.1 c.find-found.ensures.length_is)

@@ -1,7 +1,7 @@
 use Rattle.std.proofs.Common.{ap, sym, ◌∙◌, ◌≡◌, ◌≤◌, length, codes, Some, subst, List, ℕ}
 use Rattle.std.specs.Str.{bytes_eq}
 use Rattle.message_framing.specs.Target.{target_of}
-use Rattle.message_framing.specs.Reads.{SpansTarget}
+use Rattle.message_framing.specs.Places.{SpansTarget}
 use Rattle.message_framing.specs.Head.{version_of}
 use Rattle.message_framing.proofs.PartsLemmas.{fault_connect, fault_formless, no_target, some_target, parts_of_head}
 use Rattle.message_framing.proofs.head.parts_of.Goals as goal

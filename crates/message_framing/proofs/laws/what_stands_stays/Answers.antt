@@ -3,7 +3,7 @@ use Rattle.message_framing.proofs.laws.what_stands_stays.Goals as goal
 
 pub returns : goal.returns
 returns c = record {
-  refusal = λ f x. refusal_stays _ _ f x;
-  request = λ n r x. begins_stays _ _ n r x;
-  prefix = λ r q x y. no_longer_request _ _ r q x y;
+  refusal = λ bytes more f x. refusal_stays bytes more f x;
+  request = λ bytes more n r x. begins_stays bytes more n r x;
+  prefix = λ bytes more r q x y. no_longer_request bytes more r q x y;
 }

@@ -2,7 +2,7 @@ use Rattle.std.proofs.Common.{ap, sym, ◌∙◌, ◌≡◌, ◌≤◌, ◌<◌,
 use Rattle.std.specs.List.{position_or_len}
 use Rattle.rack_text.specs.Host.{is_valid_host}
 use Rattle.message_framing.specs.Target.{Target, absolute, ends_authority}
-use Rattle.message_framing.specs.Reads.{PartsTarget}
+use Rattle.message_framing.specs.Places.{PartsTarget}
 use Rattle.message_framing.proofs.TargetLemmas.{absolute_empty, absolute_bad, absolute_good, spans_absolute}
 use Rattle.message_framing.proofs.target.absolute.Goals as goal
 use Rattle.message_framing.proofs.target.absolute.Goals.{then-length-eq0-via-then-length-eq0, then-length-eq0-via-else-length-eq0+then-not-is_valid_host}

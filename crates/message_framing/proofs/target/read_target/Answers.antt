@@ -2,7 +2,7 @@ use Rattle.std.proofs.Common.{ap, sym, ◌∙◌, ◌≡◌, false, ◌&&◌, Li
 use Rattle.std.specs.Str.{bytes_eq}
 use Rattle.message_framing.specs.declared.target.TargetSpans.{TargetSpans}
 use Rattle.message_framing.specs.Target.{Target, absolute}
-use Rattle.message_framing.specs.Reads.{PartsTarget}
+use Rattle.message_framing.specs.Places.{PartsTarget}
 use Rattle.message_framing.proofs.TargetLemmas.{target_unclean, target_slash, target_scheme, target_asterisk, target_other, no_scheme, some_scheme, and_false}
 use Rattle.message_framing.proofs.target.read_target.Goals as goal
 use Rattle.message_framing.proofs.target.read_target.Goals.{else-eq-via-then-eq+else-eq-2, else-eq-via-else-eq}

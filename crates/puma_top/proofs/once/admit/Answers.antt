@@ -5,7 +5,7 @@ use Rattle.rack_types.specs.Sound.{IsSound}
 use Rattle.rack_env.specs.Environment.{env_pairs}
 use Rattle.message_framing.specs.Request.{IsRequest}
 use Rattle.puma_top.specs.Served.{is_served, once_peer, once_local}
-use Rattle.message_framing.proofs.SoundLemmas.{request_sound}
+use Rattle.message_framing.proofs.CallerLemmas.{request_sound}
 use Rattle.puma_top.proofs.OnceLemmas.{if_some_at, some_and_at, same_request, emptied_sound}
 use Rattle.puma_top.proofs.once.admit.Goals as goal
 

@@ -1,7 +1,8 @@
 use Rattle.std.proofs.Common.{◌≤◌, ℕ, List, [], Option, length, refl, sym, ◌∙◌, subst, arith}
 use Rattle.rack_outside.specs.Source.{IsPrefix}
 use Rattle.message_framing.specs.declared.intake.Feed.TheVariants.{More, Whole, Refused}
-use Rattle.puma_top.proofs.OnceLemmas.{wanting_nil, appends_none, le_refl, le_then, fits_small, falls, ended, piece_is, Feeds, feeds, feeds_more, feeds_within, feeds_held, admitted, feeds_refused, breaks_off, rose_from}
+use Rattle.message_framing.proofs.CallerLemmas.{wanting_nil}
+use Rattle.puma_top.proofs.OnceLemmas.{appends_none, le_refl, le_then, fits_small, falls, ended, piece_is, Feeds, feeds, feeds_more, feeds_within, feeds_held, admitted, feeds_refused, breaks_off, rose_from}
 use Rattle.puma_top.proofs.once.take_in.Goals as goal
 
 pub pieces-init : goal.pieces-init

@@ -31,5 +31,5 @@ returns-in_ok-reserve c = (
       let named : NamesSize c.args.self.now.text.items c.in-Some.size = subst (λ (w : List ℕ). NamesSize w c.in-Some.size) c.deref.ensures.value c.in-Some.ensures.names in
       let some : 0 < c.in-Some.size = omega (arith, c.if-size-eq0.false) in
       let fits : c.in-Some.size ≤ body_limit - length c.args.self.now.bytes.items = omega (arith, c.if-size-left.false, c.saturating_sub-left.ensures, c.len.ensures) in
-      chunk_begins c.args.self.now _ b c.in-Some.size at named some fits c.reserve.ensures.items c.clear.ensures.items,
+      chunk_begins c.args.self.now _ b c.in-Some.size at named some fits c.reserve.ensures.items c.clear.ensures.items c.in_ok-reserve.ensures.ok,
 )

@@ -1,6 +1,7 @@
 use Rattle.std.proofs.Common.{◌≡◌, sym, subst, arith, ap, List, ℕ, Ok, length, take, ◌++◌, length-drop}
 use Rattle.std.proofs.lemmas.List.{append-nil, take_all}
-use Rattle.message_framing.specs.Decoding.{IsFed, Steps}
+use Rattle.std.proofs.lemmas.Result.{err_from_is_err_and}
+use Rattle.message_framing.specs.Decoding.{HasRead, Steps}
 use Rattle.message_framing.specs.declared.chunks.Step.{Step}
 use Rattle.message_framing.specs.declared.chunks.Step.TheVariants as step
 use Rattle.message_framing.proofs.DecodingLemmas.{fed_on, fed_whole, fed_refused}
@@ -9,7 +10,7 @@ use Rattle.message_framing.proofs.chunks.Chunks.feed.Goals as goal
 pub loop-at-init : goal.loop-at-init
 loop-at-init c = record {
   within = omega arith;
-  fed = λ b fed. subst (λ (w : List ℕ). IsFed c.args.self.now w) (sym (append-nil b)) fed;
+  fed = λ b fed. subst (λ (w : List ℕ). HasRead c.args.self.now w) (sym (append-nil b)) fed;
 }
 
 pub loop-at-preserved : goal.loop-at-preserved
@@ -41,4 +42,9 @@ returns-in-Refused c =
 pub returns : goal.returns
 returns c = λ b fed.
     let all : take c.loop-at.at c.args.piece.now ≡ c.args.piece.now = take_all c.loop-at.at c.args.piece.now c.loop-at-test.false in
-    subst (λ (w : List ℕ). IsFed c.loop-at.self (b ++ w)) all (c.loop-at.invariant.fed b fed)
+    subst (λ (w : List ℕ). HasRead c.loop-at.self (b ++ w)) all (c.loop-at.invariant.fed b fed)
+
+pub returns-in_err-n : goal.returns-in_err-n
+returns-in_err-n c =
+    let failed = err_from_is_err_and c.from_residual.result c.from_residual.ensures.1 in
+    rw failed.1 (λ b fed. (c.loop-at.at, c.loop-at-test.true, c.in_err-n.ensures (b ++ take c.loop-at.at c.args.piece.now) (c.loop-at.invariant.fed b fed)))

@@ -1,6 +1,5 @@
 use Rattle.std.proofs.Common.{arith, ap, sym, []}
-use Rattle.message_framing.specs.Chunks.{line_end}
-use Rattle.message_framing.specs.Decoding.{After}
+use Rattle.message_framing.specs.Chunks.{line_end, After}
 use Rattle.message_framing.proofs.chunks.Chunks.new.Goals as goal
 
 pub returns : goal.returns

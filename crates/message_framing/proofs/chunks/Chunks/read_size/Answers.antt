@@ -1,11 +1,12 @@
 use Rattle.std.proofs.Common.{◌≤◌, ◌<◌, ◌≡◌, ◌+◌, ◌-◌, ◌++◌, List, ℕ, length, take, arith, refl, ap, sym, subst, ◌∙◌, length-take}
 use Rattle.std.proofs.lemmas.List.{take-take}
+use Rattle.std.proofs.lemmas.Result.{err_from_is_err_and}
 use Rattle.message_framing.specs.Chunks.{size_line_limit}
-use Rattle.message_framing.specs.Decoding.{IsFed, AtSizeLine}
+use Rattle.message_framing.specs.Decoding.{HasRead, AtSizeLine}
 use Rattle.message_framing.specs.declared.chunks.Chunks.{Chunks}
 use Rattle.message_framing.specs.declared.chunks.Place.TheVariants as place
 use Rattle.message_framing.proofs.ReaderLemmas.{at_place, fed_at}
-use Rattle.message_framing.proofs.SizeLineLemmas.{line_goes_on, line_ends, line_is_long, begins_step}
+use Rattle.message_framing.proofs.SizeLineLemmas.{line_goes_on, line_ends, line_is_long, begins_step, size_line_ends}
 use Rattle.message_framing.proofs.chunks.Chunks.read_size.Goals as goal
 
 pub returns-in_ok-extend_from_slice-in-Some : goal.returns-in_ok-extend_from_slice-in-Some
@@ -23,6 +24,7 @@ returns-in_ok-extend_from_slice-in-Some c =
     begins_step c.args.self.now mid c.begin_chunk.new.self c.args.piece.now (k + 1) c.begin_chunk.result c.begin_chunk.ensures (omega arith) fits
     (λ b fed. subst (λ (w : List ℕ). AtSizeLine mid (b ++ w)) same
     (line_ends c.args.self.now mid b near k (at_place _ _ b c.requires.place fed) c.in-Some.ensures.0.before c.in-Some.ensures.1 c.in-Some.ensures.0.high room refl text))
+    (λ b fed. size_line_ends c.args.self.now b (at_place _ _ b c.requires.place fed))
 
 pub returns-in_ok-extend_from_slice-in-None : goal.returns-in_ok-extend_from_slice-in-None
 returns-in_ok-extend_from_slice-in-None c =
@@ -35,7 +37,7 @@ returns-in_ok-extend_from_slice-in-None c =
     let some : 0 < length near = omega (arith, size, c.min.ensures, c.if-near-room.true, c.requires.some) in (
       some,
       fits,
-      λ b fed. subst (λ (w : List ℕ). IsFed mid (b ++ w)) same
+      λ b fed. subst (λ (w : List ℕ). HasRead mid (b ++ w)) same
           (fed_at mid place.Size (b ++ near) c.requires.place
           (line_goes_on c.args.self.now mid b near (at_place _ _ b c.requires.place fed) c.in-None.ensures room refl (c.in_ok-extend_from_slice-in-None).ensures.items)),
     )
@@ -48,3 +50,13 @@ returns-in-None-2 c = λ b fed.
     omega (arith, size, c.min.ensures, c.if-near-room.false, c.saturating_sub-room.ensures, c.len.ensures) in
     let fits : c.min.result ≤ length c.args.piece.now = omega (arith, c.min.ensures) in
     line_is_long c.args.self.now b c.args.piece.now near c.min.result (at_place _ _ b c.requires.place fed) c.prefix-near.ensures c.in-None-2.ensures room fits
+
+pub returns-in_err-extend_from_slice-in-Some : goal.returns-in_err-extend_from_slice-in-Some
+returns-in_err-extend_from_slice-in-Some c =
+    let failed = err_from_is_err_and c.from_residual.result c.from_residual.ensures.1 in
+    rw failed.1 (λ b fed. size_line_ends c.args.self.now b (at_place _ _ b c.requires.place fed))
+
+pub returns-in_err-extend_from_slice-in-None : goal.returns-in_err-extend_from_slice-in-None
+returns-in_err-extend_from_slice-in-None c =
+    let failed = err_from_is_err_and c.from_residual-in_err-extend_from_slice-in-None.result c.from_residual-in_err-extend_from_slice-in-None.ensures.1 in
+    rw failed.1 (λ b fed. size_line_ends c.args.self.now b (at_place _ _ b c.requires.place fed))

@@ -1,4 +1,5 @@
 use Rattle.std.proofs.Common.{◌≤◌, ◌<◌, ◌≡◌, ◌-◌, ◌++◌, List, ℕ, Some, length, take, arith, refl, ap, sym, subst, ◌∙◌, length-take}
+use Rattle.std.proofs.lemmas.Result.{err_from_is_err_and}
 use Rattle.message_framing.specs.Chunks.{trailer_limit}
 use Rattle.message_framing.specs.Decoding.{InTrailer}
 use Rattle.message_framing.specs.Body.{IsBody, BodyRefusal}
@@ -10,6 +11,7 @@ use Rattle.message_framing.specs.declared.scan.Line.{Line}
 use Rattle.message_framing.proofs.ScanLemmas.{ends_within}
 use Rattle.message_framing.proofs.ReaderLemmas.{at_place, refused_in_piece}
 use Rattle.message_framing.proofs.DecodingLemmas.{tells_nothing, tells_some}
+use Rattle.message_framing.proofs.SizeLineLemmas.{trailer_ends_in}
 use Rattle.message_framing.proofs.TrailerLemmas.{near_end, trailer_goes_on, trailer_is_long, IsTrailerEnd, trailer_end_at, body_ends, trailer_refused}
 use Rattle.message_framing.proofs.chunks.Chunks.read_trailer.Goals as goal
 
@@ -79,3 +81,13 @@ returns-in-None-2 c = λ b fed.
     omega (arith, long, c.min.ensures, c.saturating_sub-room.ensures, c.len.ensures) in
     trailer_is_long c.args.self.now c.args.line b c.args.piece.now c.split_at.result.0.now h
     (c.split_at.ensures.front ∙ ap (λ k. take k c.args.piece.now) here) (sym c.in-None-2.ensures.end) long
+
+pub returns-in_err-extend_from_slice-in-Some : goal.returns-in_err-extend_from_slice-in-Some
+returns-in_err-extend_from_slice-in-Some c =
+    let failed = err_from_is_err_and c.from_residual.result c.from_residual.ensures.1 in
+    rw failed.1 (λ b fed. trailer_ends_in c.args.self.now c.args.line b (at_place _ _ b c.requires.place fed))
+
+pub returns-in_err-extend_from_slice-in-None : goal.returns-in_err-extend_from_slice-in-None
+returns-in_err-extend_from_slice-in-None c =
+    let failed = err_from_is_err_and c.from_residual-in_err-extend_from_slice-in-None.result c.from_residual-in_err-extend_from_slice-in-None.ensures.1 in
+    rw failed.1 (λ b fed. trailer_ends_in c.args.self.now c.args.line b (at_place _ _ b c.requires.place fed))

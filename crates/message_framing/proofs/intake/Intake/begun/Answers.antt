@@ -12,10 +12,15 @@ returns-in-Skipping c = record {
     λ no. absurd (let clash : false ≡ true = no in cc),
     λ begun. absurd (omega (arith, begun, skipping_is b (sym spent.line ∙ c.in-Skipping.is))),
   );
+  lacked = λ b h. (
+    λ no. absurd (let clash : false ≡ true = no in cc),
+    λ begun. absurd (omega (arith, begun, skipping_is b (sym h.line ∙ c.in-Skipping.is))),
+  );
 }
 
 pub returns-in_default : goal.returns-in_default
 returns-in_default c = record {
   fed = λ b fed. (λ _. not_skipping b (λ is. c.in_default.not-Skipping (fed.line ∙ is)), λ _. refl);
   spent = λ b spent. (λ _. not_skipping b (λ is. c.in_default.not-Skipping (spent.line ∙ is)), λ _. refl);
+  lacked = λ b h. (λ _. not_skipping b (λ is. c.in_default.not-Skipping (h.line ∙ is)), λ _. refl);
 }

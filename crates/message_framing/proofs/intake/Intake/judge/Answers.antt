@@ -1,6 +1,6 @@
 use Rattle.std.proofs.Common.{ap, sym, subst}
 use Rattle.message_framing.specs.HeadText.{head_text}
-use Rattle.message_framing.specs.Reads.{StandsHead, RefusesHead}
+use Rattle.message_framing.specs.Places.{StandsHead, RefusesHead}
 use Rattle.message_framing.specs.Standing.{Judges}
 use Rattle.message_framing.proofs.FeedHeadLemmas.{judges_head}
 use Rattle.message_framing.proofs.intake.Intake.judge.Goals as goal

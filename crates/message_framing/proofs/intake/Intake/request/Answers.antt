@@ -1,4 +1,4 @@
-use Rattle.std.proofs.Common.{◌≡◌, false, true}
+use Rattle.std.proofs.Common.{◌≡◌, false, true, refl}
 use Rattle.message_framing.proofs.FedLemmas.{stands_whole, spent_whole, spent_request, not_whole_else}
 use Rattle.message_framing.proofs.intake.Intake.request.Goals as goal
 
@@ -14,4 +14,5 @@ returns-in_default c = record {
     λ some. absurd (let clash : false ≡ true = some in cc),
     λ whole. absurd (not_whole_else c.args.self.now.standing c.in_default.not-Whole whole),
   );
+  lacking = λ lacks. refl;
 }

@@ -1,5 +1,5 @@
--- Where nothing stands in an intake, few bytes came.
-use Rattle.std.proofs.Common.{◌≡◌, ℕ, ◌≤◌, Bool, true, false, not, nat_lt, if◌then◌else◌, List, [], ◌∷◌, length, drop, Option, None, Some, refl, ap, ◌∙◌, arith, codes, length-drop}
+-- A length that a head states is within the limit.
+use Rattle.std.proofs.Common.{◌≡◌, ℕ, ◌≤◌, Bool, true, false, not, nat_lt, if◌then◌else◌, List, [], ◌∷◌, Option, None, Some, refl, arith, codes}
 use Rattle.std.specs.Str.{bytes_eq}
 use Rattle.std.proofs.lemmas.Bool.{ltb-false}
 use Rattle.httparse.specs.Grammar.{RequestHead}
@@ -7,19 +7,10 @@ use Rattle.rack_text.specs.Decimal.{is_decimal, decimal_value}
 use Rattle.rack_types.specs.declared.fault.Fault.TheVariants.{F}
 use Rattle.rack_types.specs.declared.limits.Version.{Version}
 use Rattle.rack_types.specs.Fields.{values_of}
-use Rattle.rack_types.specs.Request.{Parts}
 use Rattle.message_framing.specs.declared.fields.Framing.TheVariants as framing
-use Rattle.message_framing.specs.declared.intake.Intake.{Intake}
-use Rattle.message_framing.specs.declared.standing.Standing.{Standing}
-use Rattle.message_framing.specs.declared.standing.Standing.TheVariants as at
 use Rattle.message_framing.specs.Framing.{body_limit, is_host_right, length_fault, lengths_fault, body_fault, fields_fault, framing_by, framing_of, stated_length}
 use Rattle.message_framing.specs.Head.{head_fault, head_framing, fault_with, fields_of, version_of}
-use Rattle.message_framing.specs.Intake.{EndsHead, FedAt, Fed}
-use Rattle.message_framing.specs.Request.{Wanting}
 use Rattle.message_framing.specs.Target.{Target, target_of}
-use Rattle.message_framing.proofs.ChunkLemmas.{after_size}
-use Rattle.message_framing.proofs.DecodingLemmas.{fed_coming}
-use Rattle.message_framing.proofs.RequestLemmas.{ends_at, begins_whole, ends_head_is}
 
 -- one Content-Length that earns no refusal is within the limit
 length_within : (value : List ℕ) → length_fault value ≡ None → decimal_value value ≤ body_limit
@@ -53,7 +44,7 @@ fields_within v fields m is stated = go (is_host_right v (values_of (codes "host
     go true none = body_within v (values_of (codes "transfer-encoding") fields) (values_of (codes "content-length") fields) m none stated
     go false none = absurd (let clash : Some (F 6) ≡ None = none in cc)
 
-head_states : (h : RequestHead) (m : ℕ) → head_fault h ≡ None → framing.Stated m ≡ head_framing h → m ≤ body_limit
+pub head_states : (h : RequestHead) (m : ℕ) → head_fault h ≡ None → framing.Stated m ≡ head_framing h → m ≤ body_limit
 unfolding head_fault
 head_states h m none stated = go (bytes_eq h.method (codes "CONNECT")) (target_of h.method h.target) none
   where
@@ -62,28 +53,13 @@ head_states h m none stated = go (bytes_eq h.method (codes "CONNECT")) (target_o
     go false None is = absurd (let clash : Some (F 5) ≡ None = is in cc)
     go false (Some target) is = fields_within (version_of h.minor) (fields_of h) m is stated
 
-states_within : (b : List ℕ) (n m : ℕ) (r : Parts) → EndsHead b n r (framing.Stated m) → m ≤ body_limit
-states_within b n m r h =
-    let found = ends_head_is b n r (framing.Stated m) h in
-    head_states found.0 m found.2 found.3
-
--- the most are a head, chunks of one byte with the longest size lines, and what came of the next chunk or
--- of the trailer
-pub waiting_short : (i : Intake) (b : List ℕ) → Fed i b → Wanting b → length b ≤ 1100000000
-waiting_short i b fed w = go i.standing fed.at
+-- a head that earns no refusal has a target of some form
+pub head_has_target : (h : RequestHead) → head_fault h ≡ None → (t : Target) × (target_of h.method h.target ≡ Some t)
+unfolding head_fault
+head_has_target h none = go (bytes_eq h.method (codes "CONNECT")) (target_of h.method h.target) refl none
   where
-    go : (s : Standing) → FedAt s i b → length b ≤ 1100000000
-    go at.Open h = omega (arith, h.within)
-    go (at.Stated body) h =
-        let inside = ends_at b h.start h.head.end in
-        let size : body.bytes.len ≡ length (drop h.start b) = body.bytes.ok.0 ∙ ap length h.bytes in
-        let limit : body.length ≤ body_limit = states_within b h.start body.length body.request h.head in
-        omega (arith, inside.limit, inside.inside, size, body.short, limit, length-drop h.start b)
-    go (at.Chunked body) h =
-        let inside = ends_at b h.start h.head.end in
-        let open_now = fed_coming body.chunks (drop h.start b) h.fed in
-        let size = after_size open_now.pieces 0 (drop h.start b) open_now.rest open_now.after in
-        omega (arith, inside.limit, inside.inside, size, open_now.sum, open_now.short, length-drop h.start b)
-    go (at.Whole r) h = absurd (w.0 (length b) r (begins_whole b r h))
-    go (at.Refused f) h = absurd (w.1 f h)
-    go at.Lacking h = absurd h
+    go : (connect : Bool) (target : Option Target) → target_of h.method h.target ≡ target → (if connect then Some (F 4) else fault_with target h) ≡ None
+        → (t : Target) × (target_of h.method h.target ≡ Some t)
+    go true target is none = absurd (let clash : Some (F 4) ≡ None = none in cc)
+    go false None is none = absurd (let clash : Some (F 5) ≡ None = none in cc)
+    go false (Some t) is none = (t, is)
