@@ -8,7 +8,7 @@ use Rattle.rack_types.specs.declared.fault.Fault.TheVariants.{T1}
 use Rattle.rack_types.specs.Request.{Parts}
 use Rattle.message_framing.specs.HeadText.{skip}
 use Rattle.message_framing.specs.Request.{IsRequest, Refusal, Begins, Wanting, Begun}
-use Rattle.message_framing.proofs.RequestLemmas.{begins_not_refused, refusal_stays}
+use Rattle.message_framing.proofs.CallerLemmas.{begins_not_refused, refusal_stays}
 use Rattle.reply_framing.specs.declared.types.After.{After}
 use Rattle.reply_framing.specs.declared.types.After.TheVariants.{Keep, Close, Hijack}
 use Rattle.reply_framing.specs.Fault.{fault_reply}

@@ -6,3 +6,4 @@ mod LawLemmas
 mod RetellLemmas
 mod StandsLemmas
 mod TalkLemmas
+mod WorkedRows
