@@ -17,9 +17,13 @@ use Rattle.talk_core.specs.Teller.{Fates, Teller, fates_of}
 use Rattle.talk_core.specs.Talk.{Asks, AllKeep, EndsAs, Stop, wanting, refused, closed, hijacked, StopsAs, Talk, IsFinal, replies_to, time_out}
 use Rattle.talk_core.specs.Tail.{Voice, tail_of}
 use Rattle.talk_core.specs.Stands.{Word, silent, replies, refuses, times_out, hands_over, asked_by, text_by, Stands, IsHijack, ClosesAt, Partly}
-use Rattle.talk_core.specs.Laws.{Stays, HandsTo, IsEnding, StandsFor, NeverKeeps, PartlyStands}
+use Rattle.talk_core.specs.Laws.{Stays, HandsTo, IsEnding, StandsFor, PartlyStands}
 use Rattle.talk_core.proofs.TalkLemmas.{asks_more, replies_snoc, replies_append}
 use Rattle.talk_core.proofs.CompareLemmas.{GoesFurther, KeepsFront, keep_at, talk_keeps, asked_begins, answered_begins, stop_unique}
+
+-- no reply keeps that closes by draining
+abbrev pub NeverKeeps : {H : Type 0} → Teller H → Option ℕ → Type 0
+NeverKeeps T closing = (k : ℕ) (r : Parts) → closing ≡ Some k → (T k r).after ≢ Keep
 
 -- a talk that stopped for good stays
 pub stays : (fates : Fates) (given more : List ℕ) → Stays fates given more
@@ -235,8 +239,8 @@ sent_whole V T over given sent rest lacks k j word asked more h e few =
     )
 
 pub partly_stands : {H : Type 0} (V : Voice H) (T : Teller H) (over : Bool) (given sent : List ℕ) (calls : ℕ) (closing : Option ℕ)
-    → PartlyStands V T over given sent calls closing
-partly_stands V T over given sent calls closing word lacks asked stop end never p t =
+    → NeverKeeps T closing → PartlyStands V T over given sent calls closing
+partly_stands V T over given sent calls closing never word lacks asked stop end p t =
     let h = p.stands in
     let f : GoesFurther (p.stands.whole ++ asked_by word) asked p.rest end =
     answered_begins (fates_of T) given asked p.stands.whole (asked_by word) stop end p.rest (few_asked word) p.stands.keeps p.stands.asks t in

@@ -5,7 +5,6 @@ use Rattle.rack_types.specs.Request.{Parts}
 use Rattle.rack_types.specs.Limits.{stock_limits}
 use Rattle.hijack_core.specs.Said.{Starts}
 use Rattle.message_framing.specs.Chunks.{ChunksAt}
-use Rattle.reply_framing.specs.declared.types.After.TheVariants.{Keep}
 use Rattle.reply_framing.specs.declared.types.Form.TheVariants as form
 use Rattle.reply_framing.specs.Body.{body_bytes}
 use Rattle.reply_framing.specs.Fault.{fault_reply}
@@ -54,14 +53,10 @@ pub record StandsFor {H : Type 0} (V : Voice H) (T : Teller H) (over : Bool) (as
   pub front : Starts sent (replies_to T 0 (take calls asked) ++ ending)
   pub closes : ClosesAt closing (length asked) (stop ≡ hijacked) rest
 
--- no reply keeps that closes by draining
-abbrev pub NeverKeeps : {H : Type 0} → Teller H → Option ℕ → Type 0
-NeverKeeps T closing = (k : ℕ) (r : Parts) → closing ≡ Some k → (T k r).after ≢ Keep
-
 -- what stands in part stands for each talk on its bytes
 abbrev pub PartlyStands : {H : Type 0} → Voice H → Teller H → Bool → List ℕ → List ℕ → ℕ → Option ℕ → Type 0
 PartlyStands {H} V T over given sent calls closing =
-    (word : Word H) (lacks : List ℕ) (asked : List Parts) (stop : Stop) (rest : List ℕ) → NeverKeeps T closing
+    (word : Word H) (lacks : List ℕ) (asked : List Parts) (stop : Stop) (rest : List ℕ)
     → Partly V T over given sent calls closing word lacks → Talk (fates_of T) given asked stop rest
     → StandsFor V T over asked stop rest sent calls closing
 

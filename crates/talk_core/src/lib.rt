@@ -6,6 +6,8 @@
 
 mod ended;
 mod laws;
+#[cfg(test)]
+mod tests;
 
 pub use ended::{Ended, IdleBy, Life, Why};
 pub use laws::{
