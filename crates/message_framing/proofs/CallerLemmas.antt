@@ -4,7 +4,7 @@ use Rattle.std.proofs.Common.{◌≡◌, ℕ, ◌+◌, ◌≤◌, List, [], ◌+
 use Rattle.rack_types.specs.declared.fault.Fault.{Fault}
 use Rattle.rack_types.specs.Request.{Parts}
 use Rattle.rack_types.specs.Sound.{IsSound}
-use Rattle.message_framing.specs.HeadText.{head_len, skip, lines_end}
+use Rattle.message_framing.specs.HeadText.{head_len, skipped, lines_end}
 use Rattle.message_framing.specs.Request.{head_limit, Refusal, IsRequest, Begins, Begun, Wanting, waiting_limit}
 use Rattle.message_framing.specs.Intake.{LacksRightly}
 use Rattle.message_framing.proofs.RequestLemmas as requests
@@ -39,7 +39,7 @@ wanting_front b c waits = (λ n r x. waits.0 n r (begins_stays b c n r x), λ f 
 
 -- nothing stands in no bytes
 pub wanting_nil : Wanting []
-unfolding head_len skip lines_end
+unfolding head_len skipped lines_end
 wanting_nil = let few : length {A = ℕ} [] ≤ head_limit = omega arith in requests.wanting [] refl few
 
 -- a request begins itself, and all bytes of which it is the front

@@ -7,7 +7,7 @@ use Rattle.message_framing.specs.declared.intake.Intake.{Intake}
 use Rattle.message_framing.specs.declared.standing.Standing.{Standing}
 use Rattle.message_framing.specs.Scan.{behind}
 use Rattle.message_framing.specs.Intake.{Fed, Spent}
-use Rattle.message_framing.specs.Held.{FedAt, IsStated, IsChunked, IsWholeAt, SpentAt}
+use Rattle.message_framing.specs.Held.{FedAt, IsStated, IsChunked, StandsWholeAt, SpentAt}
 use Rattle.message_framing.specs.declared.intake.Feed.TheVariants.{Whole, Refused}
 use Rattle.message_framing.specs.declared.standing.ChunkedBody.{ChunkedBody}
 use Rattle.message_framing.specs.declared.standing.StatedBody.{StatedBody}
@@ -71,8 +71,8 @@ fed_waits i b fed = go i.standing fed.at
 pub waiting_at : (s t : Standing) → s ≡ t → IsWaiting t → IsWaiting s
 waiting_at s t is w = subst IsWaiting (sym is) w
 
-pub whole_at : (s t : Standing) → s ≡ t → IsWholeAt t → IsWholeAt s
-whole_at s t is w = subst IsWholeAt (sym is) w
+pub whole_at : (s t : Standing) → s ≡ t → StandsWholeAt t → StandsWholeAt s
+whole_at s t is w = subst StandsWholeAt (sym is) w
 
 -- a request that stands, in an intake
 pub stands_whole : (i : Intake) (b : List ℕ) (r : Parts) → Fed i b → IsRequest b r → (q : Parts) × (i.standing ≡ at.Whole q)
@@ -116,7 +116,7 @@ spent_request i b q r stands spent is =
     h.2 ∙ ap (with_body []) (one_request b h.0 r h.1 is)
 
 -- a standing that is no request is not whole
-pub not_whole_else : (s : Standing) → ((q : Parts) → s ≡ at.Whole q → ⊥) → IsWholeAt s → ⊥
+pub not_whole_else : (s : Standing) → ((q : Parts) → s ≡ at.Whole q → ⊥) → StandsWholeAt s → ⊥
 not_whole_else at.Open none w = w
 not_whole_else (at.Stated body) none w = w
 not_whole_else (at.Chunked body) none w = w

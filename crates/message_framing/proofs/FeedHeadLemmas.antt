@@ -21,7 +21,7 @@ use Rattle.message_framing.specs.Head.{is_chunked, request_with}
 use Rattle.message_framing.specs.Body.{IsBody}
 use Rattle.message_framing.specs.Decoding.{HasRead}
 use Rattle.message_framing.specs.Places.{StandsIn, StandsHead, RefusesHead}
-use Rattle.message_framing.specs.Standing.{Judges, Opens}
+use Rattle.message_framing.specs.Standing.{Judges, StandsBehind}
 use Rattle.message_framing.specs.declared.head.Head.{Head}
 use Rattle.message_framing.proofs.HeadTextLemmas.{scan_head}
 use Rattle.message_framing.proofs.ScanLemmas.{ends_append, ends_within, behind_append, behind_ended, ended_behind}
@@ -220,7 +220,7 @@ line_stays b c n is =
     behind_append Skipping b c ∙ ap (λ l. behind l c) ended ∙ behind_ended c ∙ sym ended
 
 -- what a head that earns no refusal opens was judged
-pub judges_head : (s : Standing) (head : Head) (bytes : List ℕ) → StandsHead (head_text bytes) head.request head.framing → Opens head s → Judges bytes s
+pub judges_head : (s : Standing) (head : Head) (bytes : List ℕ) → StandsHead (head_text bytes) head.request head.framing → StandsBehind head s → Judges bytes s
 judges_head at.Open head bytes stands opens = (head, stands, opens)
 judges_head (at.Stated body) head bytes stands opens = (head, stands, opens)
 judges_head (at.Chunked body) head bytes stands opens = (head, stands, opens)

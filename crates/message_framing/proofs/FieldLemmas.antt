@@ -20,7 +20,7 @@ use Rattle.message_framing.specs.declared.fields.Framing.TheVariants.{Stated, Ch
 use Rattle.rack_types.specs.declared.fault.Fault.{Fault}
 use Rattle.rack_types.specs.declared.fault.Fault.TheVariants.{F}
 use Rattle.rack_types.specs.declared.limits.Version.{Version}
-use Rattle.message_framing.specs.Framing.{ends_chunked, is_host_right, fields_fault, body_fault, lengths_fault, transfer_fault, stated_length, framing_by, framing_of}
+use Rattle.message_framing.specs.Framing.{ends_chunked, is_host_right, fields_fault, body_fault, lengths_fault, transfer_fault, length_by, framing_by, framing_of}
 use Rattle.message_framing.specs.declared.fields.Found.{Found}
 use Rattle.message_framing.specs.Found.{OccursAs, CodingsAs, CodingsFound, FoundAs, StatesAs}
 
@@ -178,7 +178,7 @@ fields_transfer version fields right some = rw right (body_transfer version _ _ 
 
 -- the framing of the fields, by their parts
 framing_plain : (fields : List (List ℕ × List ℕ)) → values_of (codes "transfer-encoding") fields ≡ []
-    → framing_of fields ≡ Stated (stated_length (values_of (codes "content-length") fields))
+    → framing_of fields ≡ Stated (length_by (values_of (codes "content-length") fields))
 unfolding framing_of
 framing_plain fields none = rw none refl
 

@@ -9,7 +9,7 @@ use Rattle.message_framing.specs.declared.intake.Feed.TheVariants.{More, Whole, 
 use Rattle.message_framing.specs.declared.intake.Intake.{Intake}
 use Rattle.message_framing.specs.declared.standing.Standing.{Standing}
 use Rattle.message_framing.specs.Intake.{Fed, taken}
-use Rattle.message_framing.specs.Held.{IsWholeAt, EndsHead, IsStated, IsChunked, FedAt}
+use Rattle.message_framing.specs.Held.{StandsWholeAt, EndsHead, IsStated, IsChunked, FedAt}
 use Rattle.message_framing.specs.FeedParts.{line_behind}
 use Rattle.message_framing.specs.declared.scan.Line.{Line}
 use Rattle.message_framing.specs.declared.scan.Line.TheVariants.{Skipping}
@@ -31,7 +31,7 @@ use Rattle.message_framing.specs.declared.fields.Framing.TheVariants as framing
 -- the answer tells what stands in the intake
 abbrev pub Tells : Feed → List ℕ → Standing → Type 0
 Tells More piece s = IsWaiting s
-Tells (Whole n) piece s = (n ≤ length piece) × IsWholeAt s
+Tells (Whole n) piece s = (n ≤ length piece) × StandsWholeAt s
 Tells (Refused f) piece s = s ≡ at.Refused f
 
 -- what an intake then holds, and what its answer tells

@@ -1,7 +1,7 @@
 -- The scan finds the end of the head text as it is defined over whole lists.
 use Rattle.std.proofs.Common.{◌≡◌, ◌≢◌, ℕ, suc, ◌+◌, Bool, true, false, ◌==◌, nat_lt, List, [], ◌∷◌, Option, None, Some, option_map, if◌then◌else◌, refl, ap, sym, ◌∙◌, arith, ◌⊎◌, inl, inr}
 use Rattle.std.proofs.lemmas.Bool.Decides.{eqb_tells}
-use Rattle.message_framing.specs.HeadText.{empty_line, skip, lines_end, head_len}
+use Rattle.message_framing.specs.HeadText.{empty_line, skipped, lines_end, head_len}
 use Rattle.message_framing.specs.Scan.{one_more, ends}
 use Rattle.message_framing.specs.declared.scan.Line.{Line}
 use Rattle.message_framing.specs.declared.scan.Line.TheVariants.{Skipping, SkippingReturn, Text, Start, Return, Ended}
@@ -110,17 +110,17 @@ add_suc k None = refl
 add_suc k (Some n) = ap Some (omega arith)
 
 -- no empty line at the front, as nothing is skipped
-from_text : (b : List ℕ) → skip b ≡ 0 → head_len b ≡ lines_end b
+from_text : (b : List ℕ) → skipped b ≡ 0 → head_len b ≡ lines_end b
 unfolding head_len
 from_text b none = rw none (sym (add_zero (lines_end b)))
 
 -- nothing is skipped before a line that is not empty
-pub no_skip_return : (x c : ℕ) (r : List ℕ) → (x == 10) ≡ false → (x == 13) ≡ true → (c == 10) ≡ false → skip (x ∷ c ∷ r) ≡ 0
-unfolding skip
+pub no_skip_return : (x c : ℕ) (r : List ℕ) → (x == 10) ≡ false → (x == 13) ≡ true → (c == 10) ≡ false → skipped (x ∷ c ∷ r) ≡ 0
+unfolding skipped
 no_skip_return x c r nofeed is after = simp (nofeed, is, after)
 
-pub no_skip_letter : (x : ℕ) (r : List ℕ) → (x == 10) ≡ false → (x == 13) ≡ false → skip (x ∷ r) ≡ 0
-unfolding skip
+pub no_skip_letter : (x : ℕ) (r : List ℕ) → (x == 10) ≡ false → (x == 13) ≡ false → skipped (x ∷ r) ≡ 0
+unfolding skipped
 no_skip_letter x [] nofeed noreturn = simp (nofeed, noreturn)
 no_skip_letter x (c ∷ r) nofeed noreturn = simp (nofeed, noreturn)
 
@@ -139,7 +139,7 @@ same_return x c r nofeed is after = elim (bool_cases (c == 13)) [
 
 -- the scan from the front finds the end of the head text
 pub scan_head : (b : List ℕ) → ends Skipping b ≡ head_len b
-unfolding ends head_len skip lines_end empty_line
+unfolding ends head_len skipped lines_end empty_line
 scan_head [] = refl
 scan_head (x ∷ []) = elim (kind_of x) [
   | feed is ↦ simp is refl

@@ -19,8 +19,8 @@ use Rattle.message_framing.specs.Scan.{behind}
 use Rattle.message_framing.specs.declared.scan.Line.TheVariants.{Skipping}
 use Rattle.message_framing.specs.Request.{head_within, has_too_many_lines, IsRequest, Wanting}
 use Rattle.message_framing.specs.Standing.{StatedGoesOn, ChunkedGoesOn, FeedsOn}
-use Rattle.message_framing.specs.Intake.{Fed, Spent, Lacked, Lacks, IsRight, NeedsMemory, LacksRightly, TellsWhole, Answers, Refuses, FeedsTo}
-use Rattle.message_framing.specs.Held.{EndsHead, IsChunked, FedAt, SpentAt, IsWholeAt}
+use Rattle.message_framing.specs.Intake.{Fed, Spent, Lacked, Lacks, IsRight, NeedsMemory, LacksRightly, TellsWhole, AnswersRightly, RefusesMemory, FeedsTo}
+use Rattle.message_framing.specs.Held.{EndsHead, IsChunked, FedAt, SpentAt, StandsWholeAt}
 use Rattle.message_framing.specs.FeedParts.{FedOrLacks, from_place, line_behind, GoesOn}
 use Rattle.message_framing.proofs.StandingLemmas.{stated_more, stated_whole, stated_refused, stated_lacks, chunked_more, chunked_whole, chunked_refused, chunked_lacks}
 use Rattle.message_framing.proofs.RequestLemmas.{ends_at, within_append, wanting, ends_head_stays, ends_head_is}
@@ -109,7 +109,7 @@ right_of : (answer : Feed) (b piece : List ℕ) (new : Intake) → Went answer b
 right_of More b piece new h = fed_waits new (b ++ piece) h.0 h.1
 right_of (Whole n) b piece new h = go new.standing refl h.0.at h.1.1
   where
-    go : (s : Standing) → new.standing ≡ s → FedAt s new (b ++ take n piece) → IsWholeAt s
+    go : (s : Standing) → new.standing ≡ s → FedAt s new (b ++ take n piece) → StandsWholeAt s
         → (n ≤ length piece) × ((r : Parts) × IsRequest (b ++ take n piece) r)
     go at.Open is f w = absurd w
     go (at.Stated body) is f w = absurd w
@@ -130,8 +130,8 @@ same_kind from (Refused f) whole new is h =
     subst (λ (a : Feed). TellsWhole a new) (sym (ok_same whole (Refused f) is)) h
 
 -- a standing that is no request
-not_whole : (s t : Standing) → s ≡ t → (IsWholeAt t → ⊥) → IsWholeAt s → ⊥
-not_whole s t is none whole = none (subst IsWholeAt is whole)
+not_whole : (s t : Standing) → s ≡ t → (StandsWholeAt t → ⊥) → StandsWholeAt s → ⊥
+not_whole s t is none whole = none (subst StandsWholeAt is whole)
 
 stated_tells : (body : StatedBody) (rest : List ℕ) (answer : Feed) (new : Intake) → StatedGoesOn body rest (Ok answer) new.standing → TellsWhole answer new
 stated_tells body rest More new goes = not_whole _ _ (stated_more body rest new.standing goes).1 (λ w. w)
@@ -180,14 +180,14 @@ spent_on mid new b rest answer spent goes line = go mid.standing spent.at goes
 
 -- a feed that answers
 pub answers_of : (old mid new : Intake) (from : ℕ) (piece : List ℕ) (answer : Feed) → Started old mid from piece
-    → GoesOn mid from piece (Ok answer) new → Answers old piece answer new
+    → GoesOn mid from piece (Ok answer) new → AnswersRightly old piece answer new
 answers_of old mid new from piece answer start on = go on.answer on.feeds on.result_is on.line_is
   where
     rest : List ℕ
     rest = drop from piece
 
     go : (a : Result Feed AllocError) → FeedsOn mid.standing rest a new.standing → ◌≡◌ {A = Result Feed AllocError} (Ok answer) (from_place from a)
-        → new.line ≡ line_behind a mid.line rest → Answers old piece answer new
+        → new.line ≡ line_behind a mid.line rest → AnswersRightly old piece answer new
     go (Err e) goes is line = absurd (let clash : ◌≡◌ {A = Result Feed AllocError} (Ok answer) (Err e) = is in cc)
     go (Ok a) goes is line =
         let went : (b : List ℕ) → Fed old b → Went answer b piece new = λ b fed.
@@ -310,16 +310,16 @@ lacked_mid mid new b piece from h lacks line = record {
 
 -- a feed to which memory is refused
 pub refuses_of : (old mid new : Intake) (from : ℕ) (piece : List ℕ) (e : AllocError) → Started old mid from piece
-    → GoesOn mid from piece (Err e) new → Refuses old piece new
+    → GoesOn mid from piece (Err e) new → RefusesMemory old piece new
 refuses_of old mid new from piece e start on = go on.answer on.feeds on.result_is on.line_is
   where
     rest : List ℕ
     rest = drop from piece
 
-    refused : (a : AllocError) → FeedsOn mid.standing rest (Err a) new.standing → new.line ≡ mid.line → Refuses old piece new
+    refused : (a : AllocError) → FeedsOn mid.standing rest (Err a) new.standing → new.line ≡ mid.line → RefusesMemory old piece new
     refused a goes line = by_standing mid.standing refl goes
       where
-        by_standing : (s : Standing) → mid.standing ≡ s → FeedsOn s rest (Err a) new.standing → Refuses old piece new
+        by_standing : (s : Standing) → mid.standing ≡ s → FeedsOn s rest (Err a) new.standing → RefusesMemory old piece new
         by_standing at.Open is goes = absurd (start.behind_head is)
         by_standing (at.Stated body) is goes = absurd (stated_lacks body rest a new.standing goes)
         by_standing (at.Chunked body) is goes =
@@ -347,7 +347,7 @@ refuses_of old mid new from piece e start on = go on.answer on.feeds on.result_i
             }
 
     go : (a : Result Feed AllocError) → FeedsOn mid.standing rest a new.standing → ◌≡◌ {A = Result Feed AllocError} (Err e) (from_place from a)
-        → new.line ≡ line_behind a mid.line rest → Refuses old piece new
+        → new.line ≡ line_behind a mid.line rest → RefusesMemory old piece new
     go (Ok More) goes is line = absurd (let clash : ◌≡◌ {A = Result Feed AllocError} (Err e) (Ok More) = is in cc)
     go (Ok (Whole n)) goes is line = absurd (let clash : ◌≡◌ {A = Result Feed AllocError} (Err e) (Ok (Whole (from + n))) = is in cc)
     go (Ok (Refused f)) goes is line = absurd (let clash : ◌≡◌ {A = Result Feed AllocError} (Err e) (Ok (Refused f)) = is in cc)
@@ -355,7 +355,7 @@ refuses_of old mid new from piece e start on = go on.answer on.feeds on.result_i
 
 -- the head is still coming, and the whole piece was taken
 pub answers_more : (old new : Intake) (piece : List ℕ) → old.standing ≡ at.Open → new.standing ≡ at.Open
-    → ((b : List ℕ) → Fed old b → Fed new (b ++ piece)) → Answers old piece More new
+    → ((b : List ℕ) → Fed old b → Fed new (b ++ piece)) → AnswersRightly old piece More new
 answers_more old new piece was is fed = record {
   right = λ b h. fed_waits new (b ++ piece) (fed b h) (waiting_at _ _ is tt);
   holds = fed;

@@ -8,7 +8,7 @@ use Rattle.rack_types.specs.declared.fault.Fault.TheVariants.{F}
 use Rattle.rack_types.specs.declared.limits.Version.{Version}
 use Rattle.rack_types.specs.Fields.{values_of}
 use Rattle.message_framing.specs.declared.fields.Framing.TheVariants as framing
-use Rattle.message_framing.specs.Framing.{body_limit, is_host_right, length_fault, lengths_fault, body_fault, fields_fault, framing_by, framing_of, stated_length}
+use Rattle.message_framing.specs.Framing.{body_limit, is_host_right, length_fault, lengths_fault, body_fault, fields_fault, framing_by, framing_of, length_by}
 use Rattle.message_framing.specs.Head.{head_fault, head_framing, fault_with, fields_of, version_of}
 use Rattle.message_framing.specs.Target.{Target, target_of}
 
@@ -22,7 +22,7 @@ length_within value is = go (is_decimal value) (nat_lt body_limit (decimal_value
     go true true so none = absurd (let clash : Some (F 12) ≡ None = none in cc)
     go true false so none = ltb-false body_limit (decimal_value value) so
 
-lengths_within : (values : List (List ℕ)) → lengths_fault values ≡ None → stated_length values ≤ body_limit
+lengths_within : (values : List (List ℕ)) → lengths_fault values ≡ None → length_by values ≤ body_limit
 lengths_within [] is = omega arith
 lengths_within (value ∷ []) is = length_within value is
 lengths_within (value ∷ next ∷ more) is = absurd (let clash : Some (F 11) ≡ None = is in cc)
@@ -31,7 +31,7 @@ lengths_within (value ∷ next ∷ more) is = absurd (let clash : Some (F 11) �
 body_within : (v : Version) (transfer lengths : List (List ℕ)) (m : ℕ) → body_fault v transfer lengths ≡ None
     → framing.Stated m ≡ framing_by transfer lengths → m ≤ body_limit
 body_within v [] lengths m is stated =
-    let same : m ≡ stated_length lengths = cc in
+    let same : m ≡ length_by lengths = cc in
     omega (arith, same, lengths_within lengths is)
 body_within v (value ∷ more) lengths m is stated = absurd (let clash : framing.Stated m ≡ framing.Chunked = stated in cc)
 

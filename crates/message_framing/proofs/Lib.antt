@@ -13,6 +13,7 @@ pub mod FieldLemmas
 pub mod FrontLemmas
 pub mod GoOnLemmas
 pub mod HeadLemmas
+pub mod HeadLinesLemmas
 pub mod HeadTextLemmas
 pub mod IntakeLemmas
 pub mod LengthLemmas

@@ -3,7 +3,7 @@ use Rattle.std.proofs.Common.{◌≡◌, ℕ, zero, suc, ◌+◌, ◌<◌, ◌�
 use Rattle.message_framing.specs.Scan.{next, behind, one_more, ends, after_line_feed, after_return, after_letter}
 use Rattle.message_framing.specs.declared.scan.Line.{Line}
 use Rattle.message_framing.specs.declared.scan.Line.TheVariants.{Skipping, SkippingReturn, Text, Start, Return, Ended}
-use Rattle.message_framing.specs.HeadText.{skip}
+use Rattle.message_framing.specs.HeadText.{skipped}
 use Rattle.message_framing.proofs.HeadTextLemmas.{add_zero, add_suc, feed, return, letter, kind_of}
 
 -- a byte ends the head text, or the rest decides
@@ -157,8 +157,8 @@ ended_behind line (x ∷ b) n is = elim (ended_or_later (next line x)) [
 ]
 
 -- the scan is among empty lines exactly where nothing else came
-pub skipping_is : (b : List ℕ) → behind Skipping b ≡ Skipping → skip b ≡ length b
-unfolding behind skip
+pub skipping_is : (b : List ℕ) → behind Skipping b ≡ Skipping → skipped b ≡ length b
+unfolding behind skipped
 skipping_is [] is = refl
 skipping_is (x ∷ []) is = elim (kind_of x) [
   | feed here ↦ rw here refl
@@ -168,12 +168,12 @@ skipping_is (x ∷ []) is = elim (kind_of x) [
 skipping_is (x ∷ c ∷ r) is = elim (kind_of x) [
   | feed here ↦
       let on : behind Skipping (c ∷ r) ≡ Skipping = rw here at is in
-      let rest : skip (c ∷ r) ≡ length (c ∷ r) = skipping_is (c ∷ r) on in
+      let rest : skipped (c ∷ r) ≡ length (c ∷ r) = skipping_is (c ∷ r) on in
       rw here (ap suc rest ∙ omega arith)
   | return nofeed here ↦ elim (kind_of c) [
     | feed after ↦
         let on : behind Skipping r ≡ Skipping = rw (nofeed, here, after) at is in
-        let rest : skip r ≡ length r = skipping_is r on in
+        let rest : skipped r ≡ length r = skipping_is r on in
         rw (nofeed, here, after) (omega (arith, rest))
     | return nofeed_after after ↦
         (let on : behind Text r ≡ Skipping = rw (nofeed, here, nofeed_after, after) at is in absurd (not_back Text r refl on))
@@ -184,8 +184,8 @@ skipping_is (x ∷ c ∷ r) is = elim (kind_of x) [
       (let on : behind Text (c ∷ r) ≡ Skipping = rw (nofeed, noreturn) at is in absurd (not_back Text (c ∷ r) refl on))
 ]
 
-pub not_skipping : (b : List ℕ) → behind Skipping b ≢ Skipping → skip b < length b
-unfolding behind skip
+pub not_skipping : (b : List ℕ) → behind Skipping b ≢ Skipping → skipped b < length b
+unfolding behind skipped
 not_skipping [] other = absurd (other refl)
 not_skipping (x ∷ []) other = elim (kind_of x) [
   | feed here ↦ absurd (other (rw here refl))
@@ -194,11 +194,11 @@ not_skipping (x ∷ []) other = elim (kind_of x) [
 ]
 not_skipping (x ∷ c ∷ r) other = elim (kind_of x) [
   | feed here ↦
-      let rest : skip (c ∷ r) < length (c ∷ r) = not_skipping (c ∷ r) (λ on. other (rw here on)) in
+      let rest : skipped (c ∷ r) < length (c ∷ r) = not_skipping (c ∷ r) (λ on. other (rw here on)) in
       rw here (omega (arith, rest))
   | return nofeed here ↦ elim (kind_of c) [
     | feed after ↦
-        let rest : skip r < length r = not_skipping r (λ on. other (rw (nofeed, here, after) on)) in
+        let rest : skipped r < length r = not_skipping r (λ on. other (rw (nofeed, here, after) on)) in
         rw (nofeed, here, after) (omega (arith, rest))
     | return nofeed_after after ↦ rw (nofeed, here, nofeed_after) (omega arith)
     | letter nofeed_after noreturn_after ↦ rw (nofeed, here, nofeed_after) (omega arith)

@@ -10,7 +10,7 @@ use Rattle.message_framing.specs.declared.fields.Codings.{Codings}
 use Rattle.message_framing.specs.declared.fields.Found.{Found}
 use Rattle.message_framing.specs.declared.fields.Framing.{Framing}
 use Rattle.message_framing.specs.declared.fields.Framing.TheVariants.{Stated}
-use Rattle.message_framing.specs.Framing.{ends_chunked, lengths_fault, stated_length}
+use Rattle.message_framing.specs.Framing.{ends_chunked, lengths_fault, length_by}
 
 -- how many values there are, with the one that is alone
 abbrev pub OccursAs : Occurs → List (List ℕ) → Type 0
@@ -37,5 +37,5 @@ pub record FoundAs (f : Found) (fields : List (List ℕ × List ℕ)) : Type 0 w
 
 -- the framing that the values of Content-Length state, or their refusal
 abbrev pub StatesAs : Result Framing Fault → List (List ℕ) → Type 0
-StatesAs (Ok framing) values = (lengths_fault values ≡ None) × (framing ≡ Stated (stated_length values))
+StatesAs (Ok framing) values = (lengths_fault values ≡ None) × (framing ≡ Stated (length_by values))
 StatesAs (Err fault) values = lengths_fault values ≡ Some fault

@@ -72,13 +72,13 @@ fields_fault version fields =
     else body_fault version (values_of (codes "transfer-encoding") fields) (values_of (codes "content-length") fields)
 
 -- how many bytes the values of Content-Length state, none where there is no such field
-abbrev pub stated_length : List (List ℕ) → ℕ
-stated_length [] = 0
-stated_length (value ∷ more) = decimal_value value
+abbrev pub length_by : List (List ℕ) → ℕ
+length_by [] = 0
+length_by (value ∷ more) = decimal_value value
 
 -- how the body is framed, by the values of Transfer-Encoding and of Content-Length
 abbrev pub framing_by : List (List ℕ) → List (List ℕ) → Framing
-framing_by [] lengths = Stated (stated_length lengths)
+framing_by [] lengths = Stated (length_by lengths)
 framing_by (value ∷ more) lengths = Chunked
 
 -- how the body behind a head with these fields is framed, where they earn no refusal

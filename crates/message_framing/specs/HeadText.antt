@@ -18,12 +18,12 @@ empty_line (b ∷ []) = if b == lf then 1 else 0
 empty_line (b ∷ c ∷ rest) = if b == lf then 1 else if (b == cr) && (c == lf) then 2 else 0
 
 -- the bytes of the longest prefix that consists of whole empty lines
-unfoldable pub skip : List ℕ → ℕ
-skip [] = 0
-skip (b ∷ []) = if b == lf then 1 else 0
-skip (b ∷ c ∷ rest) =
-    if b == lf then suc (skip (c ∷ rest))
-    else if (b == cr) && (c == lf) then suc (suc (skip rest))
+unfoldable pub skipped : List ℕ → ℕ
+skipped [] = 0
+skipped (b ∷ []) = if b == lf then 1 else 0
+skipped (b ∷ c ∷ rest) =
+    if b == lf then suc (skipped (c ∷ rest))
+    else if (b == cr) && (c == lf) then suc (suc (skipped rest))
     else 0
 
 -- the bytes through the first LF that an empty line follows, and of that empty line
@@ -35,8 +35,8 @@ lines_end (b ∷ rest) =
 
 -- the bytes through the end of the head text, with the empty lines before it; none where it has not ended
 unfoldable pub head_len : List ℕ → Option ℕ
-head_len b = option_map (λ n. skip b + n) (lines_end (drop (skip b) b))
+head_len b = option_map (λ n. skipped b + n) (lines_end (drop (skipped b) b))
 
 -- what stands behind the empty lines at the front
 abbrev pub head_text : List ℕ → List ℕ
-head_text head = drop (skip head) head
+head_text head = drop (skipped head) head

@@ -1,5 +1,5 @@
 -- What an intake holds, by what stands in it. This serves inner contracts alone: of it public contracts say
--- `Fed`, `Spent`, `Lacked`, `Lacks` and `IsWhole`, which are names that whoever holds an intake carries.
+-- `Fed`, `Spent`, `Lacked`, `Lacks` and `StandsWhole`, which are names that whoever holds an intake carries.
 use Rattle.std.specs.Prelude.{◌≡◌, ℕ, ◌≤◌, List, [], length, take, drop, None, Some, ⊤}
 use Rattle.rack_types.specs.Request.{Parts, with_body}
 use Rattle.message_framing.specs.declared.fields.Framing.{Framing}
@@ -57,10 +57,10 @@ SpentAt (at.Refused f) b = ⊥
 SpentAt at.Lacking b = ⊥
 
 -- by what stands
-abbrev pub IsWholeAt : Standing → Type 0
-IsWholeAt at.Open = ⊥
-IsWholeAt (at.Stated body) = ⊥
-IsWholeAt (at.Chunked body) = ⊥
-IsWholeAt (at.Whole r) = ⊤
-IsWholeAt (at.Refused f) = ⊥
-IsWholeAt at.Lacking = ⊥
+abbrev pub StandsWholeAt : Standing → Type 0
+StandsWholeAt at.Open = ⊥
+StandsWholeAt (at.Stated body) = ⊥
+StandsWholeAt (at.Chunked body) = ⊥
+StandsWholeAt (at.Whole r) = ⊤
+StandsWholeAt (at.Refused f) = ⊥
+StandsWholeAt at.Lacking = ⊥

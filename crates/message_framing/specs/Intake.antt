@@ -1,4 +1,4 @@
--- What the calls of an intake answer. `Fed`, `Spent`, `Lacked`, `Lacks` and `IsWhole` are names of what an
+-- What the calls of an intake answer. `Fed`, `Spent`, `Lacked`, `Lacks` and `StandsWhole` are names of what an
 -- intake holds: `new` and `advance` tell `Fed` of no bytes, and the other calls carry them on, so that
 -- whoever holds an intake carries the bytes of the present request that it was fed. Nothing has to be known of
 -- what stands behind these five; the other definitions are to be read.
@@ -12,7 +12,7 @@ use Rattle.message_framing.specs.HeadText.{head_text}
 use Rattle.message_framing.specs.Head.{IsHead, head_fault, head_framing}
 use Rattle.message_framing.specs.Chunks.{EndsInLine}
 use Rattle.message_framing.specs.Request.{head_within, has_too_many_lines, Refusal, IsRequest, Wanting}
-use Rattle.message_framing.specs.Held.{FedAt, SpentAt, IsWholeAt}
+use Rattle.message_framing.specs.Held.{FedAt, SpentAt, StandsWholeAt}
 use Rattle.message_framing.specs.Scan.{behind}
 use Rattle.message_framing.specs.declared.scan.Line.TheVariants.{Skipping}
 use Rattle.message_framing.specs.declared.intake.Feed.{Feed}
@@ -40,8 +40,8 @@ pub record Lacked (i : Intake) (b : List ℕ) : Type 0 where
   pub at : Lacks i
 
 -- a whole request stands in this intake
-abbrev pub IsWhole : Intake → Type 0
-IsWhole i = IsWholeAt i.standing
+abbrev pub StandsWhole : Intake → Type 0
+StandsWhole i = StandsWholeAt i.standing
 
 -- the answer is right of the bytes so far, b, and the piece that is fed
 abbrev pub IsRight : Feed → List ℕ → List ℕ → Type 0
@@ -78,14 +78,14 @@ pub record LacksRightly (b piece : List ℕ) : Type 0 where
 
 -- the answer tells that a whole request stands exactly where one does
 abbrev pub TellsWhole : Feed → Intake → Type 0
-TellsWhole More i = ¬ (IsWhole i)
-TellsWhole (Whole n) i = IsWhole i
-TellsWhole (Refused f) i = ¬ (IsWhole i)
+TellsWhole More i = ¬ (StandsWhole i)
+TellsWhole (Whole n) i = StandsWhole i
+TellsWhole (Refused f) i = ¬ (StandsWhole i)
 
 -- one `feed`, whatever the bytes so far are. Where it answers, the answer is right, and the intake then
 -- holds what was taken; behind a request whose body was moved out it is `Whole(0)`. Where memory is
 -- refused, it may be, or it was before
-pub record Answers (old : Intake) (piece : List ℕ) (answer : Feed) (new : Intake) : Type 0 where
+pub record AnswersRightly (old : Intake) (piece : List ℕ) (answer : Feed) (new : Intake) : Type 0 where
   pub right : (b : List ℕ) → Fed old b → IsRight answer b piece
   pub holds : (b : List ℕ) → Fed old b → Fed new (taken answer b piece)
   pub spent : (b : List ℕ) → Spent old b → (answer ≡ Whole 0) × Spent new b
@@ -93,7 +93,7 @@ pub record Answers (old : Intake) (piece : List ℕ) (answer : Feed) (new : Inta
   pub lacked : ¬ (Lacks old)
 
 -- the same where memory is refused: the piece counts for the bytes that came, and a further one does not
-pub record Refuses (old : Intake) (piece : List ℕ) (new : Intake) : Type 0 where
+pub record RefusesMemory (old : Intake) (piece : List ℕ) (new : Intake) : Type 0 where
   pub lacks : Lacks new
   pub came : (b : List ℕ) → Fed old b → Lacked new (b ++ piece)
   pub stays : (b : List ℕ) → Lacked old b → Lacked new b
@@ -101,5 +101,5 @@ pub record Refuses (old : Intake) (piece : List ℕ) (new : Intake) : Type 0 whe
   pub unspent : (b : List ℕ) → ¬ (Spent old b)
 
 abbrev pub FeedsTo : Intake → List ℕ → Result Feed AllocError → Intake → Type 0
-FeedsTo old piece (Ok answer) new = Answers old piece answer new
-FeedsTo old piece (Err e) new = Refuses old piece new
+FeedsTo old piece (Ok answer) new = AnswersRightly old piece answer new
+FeedsTo old piece (Err e) new = RefusesMemory old piece new

@@ -5,7 +5,7 @@ use Rattle.rack_types.specs.declared.fault.Fault.{Fault}
 use Rattle.rack_types.specs.declared.fault.Fault.TheVariants.{F}
 use Rattle.rack_types.specs.Limits.{stock_limits}
 use Rattle.rack_types.specs.Request.{Parts}
-use Rattle.message_framing.specs.HeadText.{skip, head_len, head_text}
+use Rattle.message_framing.specs.HeadText.{skipped, head_len, head_text}
 use Rattle.message_framing.specs.Head.{IsHead, IsNoHead, IsRequestOf, lines_between, head_fault, head_framing}
 use Rattle.message_framing.specs.Body.{IsBody, BodyRefusal}
 
@@ -79,7 +79,7 @@ Wanting b = ((n : ℕ) (r : Parts) → ¬ (Begins b n r)) × ((f : Fault) → ¬
 
 -- b has begun: it has more than whole empty lines
 abbrev pub Begun : List ℕ → Type 0
-Begun b = skip b < length b
+Begun b = skipped b < length b
 
 -- the most bytes in which nothing stands: a head, chunks of one byte with the longest size lines, and what came
 -- of a last size line and of the trailer behind it

@@ -16,14 +16,14 @@ use Rattle.message_framing.specs.Places.{StandsHead, RefusesHead}
 use Rattle.message_framing.specs.Decoding.{HasRead, LacksIn}
 
 -- what stands behind a head that earns no refusal
-abbrev pub Opens : Head → Standing → Type 0
-Opens head at.Open = ⊥
-Opens head (at.Stated body) =
+abbrev pub StandsBehind : Head → Standing → Type 0
+StandsBehind head at.Open = ⊥
+StandsBehind head (at.Stated body) =
     (head.framing ≡ framing.Stated body.length) × (body.request ≡ head.request) × (body.bytes.items ≡ [])
-Opens head (at.Chunked body) = (head.framing ≡ framing.Chunked) × (body.request ≡ head.request) × HasRead body.chunks []
-Opens head (at.Whole r) = (head.framing ≡ framing.Stated 0) × (r ≡ head.request)
-Opens head (at.Refused f) = ⊥
-Opens head at.Lacking = (n : ℕ) × (head.framing ≡ framing.Stated n) × (0 < n)
+StandsBehind head (at.Chunked body) = (head.framing ≡ framing.Chunked) × (body.request ≡ head.request) × HasRead body.chunks []
+StandsBehind head (at.Whole r) = (head.framing ≡ framing.Stated 0) × (r ≡ head.request)
+StandsBehind head (at.Refused f) = ⊥
+StandsBehind head at.Lacking = (n : ℕ) × (head.framing ≡ framing.Stated n) × (0 < n)
 
 -- a stated body behind a piece
 abbrev pub StatedGoesOn : StatedBody → List ℕ → Result Feed AllocError → Standing → Type 0
@@ -58,4 +58,4 @@ FeedsOn at.Lacking piece answer standing = IsErr answer × (standing ≡ at.Lack
 -- what stands behind a whole head, which has these bytes with the empty lines before it
 abbrev pub Judges : List ℕ → Standing → Type 0
 Judges bytes (at.Refused f) = RefusesHead (head_text bytes) f
-Judges bytes standing = (head : Head) × StandsHead (head_text bytes) head.request head.framing × Opens head standing
+Judges bytes standing = (head : Head) × StandsHead (head_text bytes) head.request head.framing × StandsBehind head standing

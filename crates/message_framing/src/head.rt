@@ -45,6 +45,19 @@ fn has_too_many_lines(text: &[u8]) -> bool
     count_line_feeds(text).saturating_sub(2) > LINES_LIMIT
 }
 
+// The refusal of a text that is no head. A head has one line for each of its fields, so of a text that is one
+// the lines need no count.
+fn no_head_fault(text: &[u8]) -> Fault
+    requires { IsNoHead text.now }
+    ensures { RefusesHead text.now result }
+{
+    if has_too_many_lines(text) {
+        Fault::F(2)
+    } else {
+        Fault::F(3)
+    }
+}
+
 /// A whole head that earns no refusal.
 #[derive(Drop)]
 pub(crate) struct Head {
@@ -63,11 +76,8 @@ pub(crate) fn read_head(bytes: Vec<u8>, mut places: Vec<HeaderSpan>) -> Result<H
 {
     let start = skip(&bytes);
     let text = suffix(&bytes, start);
-    if has_too_many_lines(text) {
-        return Err(Fault::F(2));
-    }
     let Some(head) = parse_head(text, &mut places) else {
-        return Err(Fault::F(3));
+        return Err(no_head_fault(text));
     };
     let spans = parts_of(start, text, &head, &places)?;
     let framing = body_framing(spans.version, text, &places[..spans.fields])?;

@@ -41,7 +41,7 @@ impl Intake {
     ghost use Rattle.rack_types.specs.Input.{unread};
     ghost use Rattle.rack_types.specs.Limits.{stock_limits};
     ghost use Rattle.rack_types.specs.Request.{Parts, with_body};
-    ghost use Rattle.message_framing.specs.Intake.{Fed, Spent, Lacked, Lacks, IsWhole, FeedsTo};
+    ghost use Rattle.message_framing.specs.Intake.{Fed, Spent, Lacked, Lacks, StandsWhole, FeedsTo};
     ghost use Rattle.message_framing.specs.FeedParts.{FeedsHead, GoesOn};
     ghost use Rattle.message_framing.specs.Request.{Begun, IsRequest};
     ghost use Rattle.message_framing.specs.Standing.{Judges};
@@ -153,7 +153,7 @@ impl Intake {
         ensures there { (b : List ℕ) → Fed self.now b → IfSome result (λ r. IsRequest b r.now) }
         ensures none { (b : List ℕ) (r : Parts) → Fed self.now b → IsRequest b r → IsSome result }
         ensures spent { (b : List ℕ) (r : Parts) → Spent self.now b → IsRequest b r → IsSomeAnd result (λ q. q.now ≡ with_body [] r) }
-        ensures whole { IsSome result ↔ IsWhole self.now }
+        ensures whole { IsSome result ↔ StandsWhole self.now }
         ensures lacking { Lacks self.now → IsNone result }
     {
         match &self.standing {
@@ -180,10 +180,10 @@ impl Intake {
     /// Moves the body of the whole request out, as the input of an environment, and leaves an empty one.
     /// It copies nothing.
     pub fn take_input(&mut self) -> Input
-        requires { IsWhole self.old }
+        requires { StandsWhole self.old }
         ensures first { (b : List ℕ) (r : Parts) → Fed self.old b → IsRequest b r → (result ≡ unread r.body) × Spent self.new b }
         ensures again { (b : List ℕ) → Spent self.old b → (result ≡ unread []) × Spent self.new b }
-        ensures whole { IsWhole self.new }
+        ensures whole { StandsWhole self.new }
     {
         let Standing::Whole(request) = &mut self.standing else {
             unreachable!()
@@ -194,7 +194,7 @@ impl Intake {
     /// Starts the next request, on the bytes behind the whole one that stands. It uses the room of the
     /// head again.
     pub fn advance(&mut self)
-        requires { IsWhole self.old }
+        requires { StandsWhole self.old }
         ensures { Fed self.new [] }
     {
         let Standing::Whole(request) = mem::replace(&mut self.standing, Standing::Lacking) else {

@@ -1,7 +1,7 @@
 // Where a head or a trailer ends, found piece by piece.
 ghost use Rattle.std.specs.Prelude.{◌≡◌, ◌≤◌, length, count_by, drop, take};
 ghost use Rattle.message_framing.specs.Head.{is_line_feed};
-ghost use Rattle.message_framing.specs.HeadText.{skip};
+ghost use Rattle.message_framing.specs.HeadText.{skipped};
 ghost use Rattle.message_framing.specs.Scan.{next, behind, ends};
 
 use memchr::{memchr, memchr_iter};
@@ -73,7 +73,7 @@ pub(crate) fn count_line_feeds(bytes: &[u8]) -> usize
 
 // How many bytes the whole empty lines at the front have.
 pub(crate) fn skip(bytes: &[u8]) -> usize
-    ensures value { result ≡ skip bytes.now }
+    ensures value { result ≡ skipped bytes.now }
     ensures within { result ≤ length bytes.now }
 {
     let mut at = 0;

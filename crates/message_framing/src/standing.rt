@@ -44,11 +44,11 @@ pub(crate) struct ChunkedBody {
 }
 
 impl Standing {
-    ghost use Rattle.message_framing.specs.Standing.{Opens, FeedsOn};
+    ghost use Rattle.message_framing.specs.Standing.{StandsBehind, FeedsOn};
 
     /// What stands behind a head that earns no refusal.
     pub(crate) fn behind_head(alloc: Global, head: Head) -> Standing
-        ensures { Opens head result }
+        ensures { StandsBehind head result }
     {
         let Head { request, framing } = head;
         match framing {
