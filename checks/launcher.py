@@ -31,6 +31,7 @@ out/puma_cli "$@" < /dev/null
 BUILDS = b"bin/puma: the program is proved and built first; from nothing this takes several minutes\n"
 PROVED = (b"bin/puma: puma_cli: another copy is building this library; waiting for it, to use its work\n"
           b"bin/puma: puma_cli is proved, 17 functions\n")
+WAITS = b"bin/puma: waits for another call, which builds the program\n"
 
 
 def check_use(checks):
@@ -159,7 +160,8 @@ def check_builds(checks):
 def check_failed_builds(checks, tree, source):
     tree.write(source, b"fourth")
     tree.write("broken", b"")
-    want = (125, b"", BUILDS + PROVED + b"error: this is the first\n and this its second line\nbin/puma: the program was not built\n")
+    errors = b"error: this is the first\n and this its second line\n"
+    want = (125, b"", BUILDS + PROVED + errors + b"bin/puma: the program was not built\n")
     checks.answers("a build that fails", want, tree.run())
     checks.answers("a build that fails again", want, tree.run())
     os.remove(tree.at("broken"))
@@ -222,7 +224,7 @@ def check_side_by_side(checks, tree, source):
     checks.counts("three calls at once, how often it is built", before + 1, tree.calls())
     checks.counts("the one that builds", BUILDS + PROVED, tree.said("first"))
     for name in ("second", "third"):
-        checks.counts(f"the {name}, which waits", b"bin/puma: waits for another call, which builds the program\n", tree.said(name))
+        checks.counts(f"the {name}, which waits", WAITS, tree.said(name))
 
 
 def wait_until(comes):

@@ -25,7 +25,7 @@ def check_statuses(checks):
     checks.begin("exit statuses")
     write("bad.stack", b"run env\n")
     write("long", b"h" * (FILE_LIMIT + 1))
-    # Of the status for want of memory the cases of memory tell.
+    # Of the status for want of memory memory.py tells.
     for number, line, words, stdin in [
         (0, b"", ["once", "hello.stack"], GET),
         (2, b"puma: usage\n", ["once"], GET),
@@ -39,14 +39,13 @@ def check_statuses(checks):
         output = b"" if number else reply(b"hello")
         checks.wants(name, (number, output, line), *words, stdin=stdin)
         check_mute(checks, name, (number, output, b""), words, stdin=stdin)
-    # Both streams are one here.
-    for name, want, device in [("a full device", 7, "/dev/full")]:
-        if not os.path.exists(device):
-            checks.pass_over(name, f"there is no {device}")
-            continue
-        with open(device, "wb") as full:
-            checks.wants("puma: write failed", WRITE_FAILED, "once", "hello.stack", stdin=GET, stdout=full)
-            check_mute(checks, "puma: write failed", (want, b"", b""), ["once", "hello.stack"], stdin=GET, stdout=full)
+    if not os.path.exists("/dev/full"):
+        checks.pass_over("puma: write failed", "there is no /dev/full")
+        return
+    with open("/dev/full", "wb") as full:
+        words = ["once", "hello.stack"]
+        checks.wants("puma: write failed", WRITE_FAILED, *words, stdin=GET, stdout=full)
+        check_mute(checks, "puma: write failed", (7, b"", b""), words, stdin=GET, stdout=full)
 
 
 def check_mute(checks, name, want, words, **how):

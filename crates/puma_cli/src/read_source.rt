@@ -81,11 +81,11 @@ mod tests {
         Ok(())
     }
 
-    // Is interrupted so many times, then gives one byte, and fails from then on.
+    // Is interrupted so many times, then gives one byte, fails once, and ends.
     #[derive(Drop)]
     struct Uneven {
         interruptions: u8,
-        is_spent: bool,
+        reads: u8,
     }
 
     impl Read for Uneven {
@@ -94,25 +94,29 @@ mod tests {
                 self.interruptions -= 1;
                 return Err(Error::from(ErrorKind::Interrupted));
             }
-            if self.is_spent || buf.is_empty() {
-                return Err(Error::from(ErrorKind::ConnectionReset));
+            self.reads = self.reads.saturating_add(1);
+            match self.reads {
+                1 if !buf.is_empty() => {
+                    buf[0] = b'x';
+                    Ok(1)
+                }
+                2 => Err(Error::from(ErrorKind::WouldBlock)),
+                _ => Ok(0),
             }
-            self.is_spent = true;
-            buf[0] = b'x';
-            Ok(1)
         }
     }
 
     #[test]
-    fn tries_an_interrupted_read_again(rt: HostRuntime) {
+    fn tries_an_interrupted_read_again_and_no_failed_one(rt: HostRuntime) {
         let mut source = ReadSource::new(Uneven {
             interruptions: 3,
-            is_spent: false,
+            reads: 0,
         });
         let mut room = [0u8; 4];
         assert_eq!(rt; source.read(&mut room), SourceRead::Bytes(1));
         assert_eq!(rt; (room[0], source.faults), (b'x', 0));
         assert_eq!(rt; source.read(&mut room), SourceRead::Failed);
         assert_eq!(rt; source.faults, 1);
+        assert_eq!(rt; source.read(&mut room), SourceRead::End);
     }
 }

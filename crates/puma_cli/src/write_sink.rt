@@ -79,11 +79,12 @@ mod tests {
         Ok(())
     }
 
-    // Is interrupted so many times, then takes one byte, and nothing from then on.
+    // Is interrupted so many times, then takes one byte, fails once, takes a whole piece, and nothing
+    // from then on.
     #[derive(Drop)]
     struct Uneven {
         interruptions: u8,
-        is_full: bool,
+        writes: u8,
     }
 
     impl Write for Uneven {
@@ -92,11 +93,13 @@ mod tests {
                 self.interruptions -= 1;
                 return Err(Error::from(ErrorKind::Interrupted));
             }
-            if self.is_full || buf.is_empty() {
-                return Ok(0);
+            self.writes = self.writes.saturating_add(1);
+            match self.writes {
+                1 => Ok(buf.len().min(1)),
+                2 => Err(Error::from(ErrorKind::WouldBlock)),
+                3 => Ok(buf.len()),
+                _ => Ok(0),
             }
-            self.is_full = true;
-            Ok(1)
         }
 
         fn flush(&mut self) -> io::Result<()> {
@@ -105,15 +108,18 @@ mod tests {
     }
 
     #[test]
-    fn tries_an_interrupted_write_again(rt: HostRuntime) {
+    fn tries_an_interrupted_write_again_and_no_failed_one(rt: HostRuntime) {
         let mut sink = WriteSink::new(Uneven {
             interruptions: 3,
-            is_full: false,
+            writes: 0,
         });
         assert_eq!(rt; sink.write(b"hello"), SinkWrite::Took(1));
         assert_eq!(rt; sink.faults, 0);
-        // What takes nothing has failed.
         assert_eq!(rt; sink.write(b"ello"), SinkWrite::Failed);
         assert_eq!(rt; sink.faults, 1);
+        assert_eq!(rt; sink.write(b"ello"), SinkWrite::Took(4));
+        // What takes nothing has failed.
+        assert_eq!(rt; sink.write(b"!"), SinkWrite::Failed);
+        assert_eq!(rt; sink.faults, 2);
     }
 }
