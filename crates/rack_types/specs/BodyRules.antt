@@ -12,15 +12,15 @@ pub record Break : Type 0 where
 abbrev pub body_rule : ℕ → BodyRule
 body_rule n = record { 0 = n }
 
--- B1: the piece has more bytes than are left of the promise
-abbrev pub breaks_B1 : Option ℕ → List ℕ → Bool
-breaks_B1 None piece = false
-breaks_B1 (Some promised) piece = nat_lt promised (length piece)
+-- B1: a piece of so many bytes is more than what is left of the promise
+abbrev pub breaks_B1 : Option ℕ → ℕ → Bool
+breaks_B1 None n = false
+breaks_B1 (Some promised) n = nat_lt promised n
 
--- what is left of the promise behind the piece
-abbrev pub left_behind : Option ℕ → List ℕ → Option ℕ
-left_behind None piece = None
-left_behind (Some promised) piece = Some (promised - length piece)
+-- what is left of the promise behind a piece of so many bytes
+abbrev pub left_behind : Option ℕ → ℕ → Option ℕ
+left_behind None n = None
+left_behind (Some promised) n = Some (promised - n)
 
 -- B2: something is left of the promise at the end
 abbrev pub breaks_B2 : Option ℕ → Bool
@@ -41,5 +41,5 @@ a_piece_later b = record { place = suc b.place; rule = b.rule }
 unfoldable pub body_break : Option ℕ → List (List ℕ) → Bool → Option Break
 body_break promised [] raises = option_map (λ r. record { place = 0; rule = r }) (end_rule promised raises)
 body_break promised (piece ∷ pieces) raises =
-    if breaks_B1 promised piece then Some (record { place = 0; rule = body_rule 1 })
-    else option_map a_piece_later (body_break (left_behind promised piece) pieces raises)
+    if breaks_B1 promised (length piece) then Some (record { place = 0; rule = body_rule 1 })
+    else option_map a_piece_later (body_break (left_behind promised (length piece)) pieces raises)

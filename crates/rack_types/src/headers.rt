@@ -72,11 +72,7 @@ impl Headers {
     }
 
     /// Gives a name one value as `set` does; both are static texts, for which no memory is taken.
-    pub fn set_static(
-        &mut self,
-        name: &'static [u8],
-        value: &'static [u8],
-    ) -> Result<(), NoMemory>
+    pub fn set_static(&mut self, name: &'static [u8], value: &'static [u8]) -> Result<(), NoMemory>
         ensures set { OnOk result (self.new ≡ set_header name.now value.now self.old) }
         ensures unchanged { OnErr result (self.new ≡ self.old) }
     {
@@ -182,4 +178,33 @@ fn push_value(values: &mut Values, value: Text) -> Result<(), NoMemory>
 {
     values.more.push(value)?;
     Ok(())
+}
+
+#[cfg(test)]
+mod tests {
+    use super::*;
+
+    #[test]
+    fn adds_values_in_place(rt: HostRuntime) -> Result<(), NoMemory> {
+        let mut headers = Headers::with_room(rt.alloc(), 2)?;
+        headers.add(b"set-cookie", b"a=1")?;
+        headers.set_static(b"content-type", b"text/plain")?;
+        headers.add(b"set-cookie", b"b=2")?;
+        assert_eq!(rt; headers.len(), 2);
+        assert_eq!(rt; headers.value_count(0), 2);
+        assert_eq!(rt; headers.value(0, 1), "b=2".as_bytes());
+        Ok(())
+    }
+
+    #[test]
+    fn sets_one_value_in_place(rt: HostRuntime) -> Result<(), NoMemory> {
+        let mut headers = Headers::new(rt.alloc());
+        headers.set(b"etag", b"x")?;
+        headers.set_value(b"age", Bytes::new(Vec::from_slice(rt.alloc(), b"5")?))?;
+        headers.set(b"etag", b"y")?;
+        assert_eq!(rt; headers.get(b"age"), Some(1));
+        assert_eq!(rt; headers.name(0), "etag".as_bytes());
+        assert_eq!(rt; headers.value(0, 0), "y".as_bytes());
+        Ok(())
+    }
 }

@@ -17,6 +17,8 @@ mod plain;
 mod request;
 mod rules;
 mod runner;
+#[cfg(test)]
+mod tests;
 
 pub use answer::Answer;
 pub use body::{Body, Kind, Step};
