@@ -1,5 +1,5 @@
 -- The body of a reply on whole lists: which pieces are sent, and as which bytes (RFC 9112, sections 6 and 7.1).
-use Rattle.std.specs.Prelude.{ℕ, Bool, true, false, List, [], ◌∷◌, ◌++◌, length, take, Option, None, Some, codes}
+use Rattle.std.specs.Prelude.{ℕ, Bool, false, List, [], ◌∷◌, ◌++◌, length, take, Option, None, Some, codes}
 use Rattle.std.specs.List.{flat_map}
 use Rattle.std.specs.Fmt.{digits}
 use Rattle.rack_types.specs.declared.rules.BodyRule.{BodyRule}

@@ -1,12 +1,8 @@
--- What a framer still has to append, whatever it holds, and what one `fill` does to it and to the ring.
-use Rattle.std.specs.Prelude.{◌≡◌, ◌<◌, ℕ, Bool, false, List, [], ◌++◌, length, Option, None, Some, Result, Ok, Err}
-use Rattle.std.specs.declared.alloc.AllocError.{AllocError}
+-- What a framer still has to append, whatever it holds.
+use Rattle.std.specs.Prelude.{◌≡◌, ℕ, Bool, List, ◌++◌, Option}
 use Rattle.circular_buffer.specs.Buffer.{Buffer, buffer}
 use Rattle.rack_types.specs.declared.rules.BodyRule.{BodyRule}
 use Rattle.reply_framing.specs.declared.types.After.{After}
-use Rattle.reply_framing.specs.declared.types.After.TheVariants.{Close}
-use Rattle.reply_framing.specs.declared.types.Filled.{Filled}
-use Rattle.reply_framing.specs.declared.types.Filled.TheVariants.{Full, Done, Broke}
 use Rattle.reply_framing.specs.declared.types.Form.{Form}
 
 -- the rest of a reply
@@ -36,18 +32,3 @@ pub record Appends (old new : List ℕ) (before after : Buffer ℕ) : Type 0 whe
   pub sent : List ℕ
   pub bytes : old ≡ sent ++ new
   pub ring : after ≡ buffer (before.items ++ sent) before.capacity
-
--- the answer of a fill is right of the rest and the ring behind it: the ring is full and bytes remain, all was
--- appended, all before the break was appended, or the body wanted memory
-abbrev pub IsFilled : Result Filled AllocError → Rest → Buffer ℕ → Type 0
-IsFilled (Ok Full) rest ring = (0 < length rest.bytes) × (length ring.items ≡ ring.capacity)
-IsFilled (Ok Done) rest ring = (rest.bytes ≡ []) × (rest.rule ≡ None)
-IsFilled (Ok (Broke rule)) rest ring = (rest.bytes ≡ []) × (rest.rule ≡ Some rule)
-IsFilled (Err e) rest ring = rest.sure ≡ false
-
--- behind a break the connection closes
-abbrev pub after_then : Result Filled AllocError → After → After
-after_then (Ok Full) after = after
-after_then (Ok Done) after = after
-after_then (Ok (Broke rule)) after = Close
-after_then (Err e) after = after

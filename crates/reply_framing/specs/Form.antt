@@ -1,6 +1,6 @@
 -- How a reply tells the length of its body, and what becomes of the connection (RFC 9112, sections 6 and 9).
 -- The order of the forms, and that a status below 200 closes, are this project's own.
-use Rattle.std.specs.Prelude.{ℕ, nat_lt, Bool, true, false, not, ◌||◌, if◌then◌else◌, List, [], ◌∷◌, ◌++◌, codes, decimal, Option, Some, None}
+use Rattle.std.specs.Prelude.{ℕ, nat_lt, Bool, true, false, not, ◌||◌, if◌then◌else◌, List, [], ◌++◌, codes, decimal, Option, Some, None}
 use Rattle.std.specs.List.{list_any}
 use Rattle.rack_text.specs.Lists.{list_has}
 use Rattle.rack_types.specs.declared.limits.Version.{Version}
@@ -14,7 +14,8 @@ use Rattle.reply_framing.specs.declared.types.Form.{Form}
 use Rattle.reply_framing.specs.declared.types.Form.TheVariants.{Bare, Stated, Known, Chunked, Closing}
 use Rattle.reply_framing.specs.Head.{crlf}
 
--- the length that the application's `content-length` promises, none where that header isn't there
+-- the length that the application's `content-length` promises, none where that header isn't there. (One that is
+-- there and is not one number below 2^64 breaks L8: behind the rules the two are the same.)
 abbrev pub promise : HeaderList → Option ℕ
 promise headers = stated_length (header_values (codes "content-length") headers)
 
@@ -38,13 +39,17 @@ length_line Known (Some n) = codes "content-length: " ++ decimal n ++ crlf
 length_line Chunked known = codes "transfer-encoding: chunked\r\n"
 length_line Closing known = []
 
+-- one of the values has `close`
+abbrev pub has_close : List ℕ → Bool
+has_close value = list_has value (codes "close")
+
+abbrev pub have_close : Option (List (List ℕ)) → Bool
+have_close None = false
+have_close (Some values) = list_any has_close values
+
 -- a value of the application's `connection` has `close`
 abbrev pub wants_close : HeaderList → Bool
-wants_close headers = has_close (header_values (codes "connection") headers)
-  where
-    has_close : Option (List (List ℕ)) → Bool
-    has_close None = false
-    has_close (Some values) = list_any (λ value. list_has value (codes "close")) values
+wants_close headers = have_close (header_values (codes "connection") headers)
 
 -- the end of the connection is the end of the body
 abbrev pub is_closing : Form → Bool

@@ -1,6 +1,6 @@
 -- The lines of a reply's head (RFC 9112, sections 4 and 5). Their order, the version, which is always
 -- HTTP/1.1, and which headers are left out are this project's own.
-use Rattle.std.specs.Prelude.{ℕ, nat_eq, Bool, not, ◌&&◌, ◌||◌, if◌then◌else◌, List, [], ◌∷◌, ◌++◌, codes, decimal, bytes_eq}
+use Rattle.std.specs.Prelude.{ℕ, nat_eq, Bool, not, ◌&&◌, ◌||◌, if◌then◌else◌, List, [], ◌++◌, codes, decimal, bytes_eq}
 use Rattle.std.specs.List.{flat_map, starts_with}
 use Rattle.rack_types.specs.Headers.{HeaderList}
 use Rattle.reply_framing.specs.Reason.{reason}

@@ -1,9 +1,13 @@
 pub mod Body
 pub mod Coming
 pub mod Fault
+pub mod Fills
 pub mod Form
+pub mod Framed
+pub mod Framer
 pub mod Head
 pub mod Owes
+pub mod Pull
 pub mod PullOrder
 pub mod Reason
 pub mod Reply

@@ -1,16 +1,11 @@
 -- The order in which a body is asked: its next piece is taken only when the bytes of all pieces before it were
 -- appended. This project's own.
-use Rattle.std.specs.Prelude.{◌≡◌, ℕ, ◌-◌, Bool, List, [], ◌∷◌, ◌++◌, length, Option, None, Some, ⊤}
+use Rattle.std.specs.Prelude.{◌≡◌, ℕ, Bool, List, [], ◌∷◌, ◌++◌, length, Option, ⊤}
 use Rattle.std.specs.List.{concat}
+use Rattle.rack_types.specs.BodyRules.{left_behind}
 use Rattle.reply_framing.specs.declared.types.Form.{Form}
-use Rattle.reply_framing.specs.declared.types.Form.TheVariants.{Bare}
 use Rattle.reply_framing.specs.Body.{wire, body_bytes}
 use Rattle.reply_framing.specs.Coming.{Rest}
-
--- what is left of a promised length behind these pieces
-abbrev pub left_behind_all : Option ℕ → List (List ℕ) → Option ℕ
-left_behind_all None pieces = None
-left_behind_all (Some p) pieces = Some (p - length (concat pieces))
 
 -- the bytes that those pieces make which were not taken from the body
 abbrev pub later : Rest → List ℕ
@@ -31,7 +26,7 @@ IsLate (piece ∷ next ∷ pieces) rest = IsLate (next ∷ pieces) rest
 pub record Pulls (old new : Rest) : Type 0 where
   pub taken : List (List ℕ)
   pub given : old.waiting ≡ taken ++ new.waiting
-  pub left : new.left ≡ left_behind_all old.left taken
+  pub left : new.left ≡ left_behind old.left (length (concat taken))
   pub late : IsLate taken new
 
 -- no piece was taken

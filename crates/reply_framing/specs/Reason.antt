@@ -19,5 +19,5 @@ reasons =
     ∷ (500, codes "Internal Server Error") ∷ (501, codes "Not Implemented") ∷ (503, codes "Service Unavailable") ∷ []
 
 -- the reason behind a status, empty for a status that has none here
-abbrev pub reason : ℕ → List ℕ
+unfoldable pub reason : ℕ → List ℕ
 reason status = text_of status reasons

@@ -3,6 +3,7 @@
 use Rattle.std.specs.Prelude.{ℕ, Bool, true, false, List, [], ◌∷◌, ◌++◌, codes, decimal, Option, None, Some}
 use Rattle.rack_types.specs.declared.answer.Answer.{Answer}
 use Rattle.rack_types.specs.declared.answer.Answer.TheVariants as answer
+use Rattle.rack_types.specs.declared.limits.Version.{Version}
 use Rattle.rack_types.specs.declared.body.Kind.TheVariants.{Enumerable}
 use Rattle.rack_types.specs.declared.rules.BodyRule.{BodyRule}
 use Rattle.rack_types.specs.declared.rules.Rule.{Rule}
@@ -32,11 +33,15 @@ abbrev pub body_after : Option BodyRule → After → After
 body_after None after = after
 body_after (Some rule) after = Close
 
+-- the head of a reply: its status line, its headers, the line that tells the length, and the one on the connection
+abbrev pub head_text : ℕ → HeaderList → Form → Option ℕ → After → Version → List ℕ
+head_text status headers form known after version =
+    status_line status ++ header_lines false headers ++ length_line form known ++ connection_line after version ++ crlf
+
 -- a reply with a body, in this form
 abbrev pub framed_reply : {H : Type 0} → Form → Ask → ℕ → HeaderList → Content → Bool → WholeReply H
 framed_reply form ask status headers body last = record {
-  bytes = status_line status ++ header_lines false headers ++ length_line form body.known
-      ++ connection_line (head_after ask status headers form last) ask.version ++ crlf
+  bytes = head_text status headers form body.known (head_after ask status headers form last) ask.version
       ++ body_bytes form (promise headers) body.pieces body.raises;
   rule = rule_in form (promise headers) body.pieces body.raises;
   after = body_after (rule_in form (promise headers) body.pieces body.raises) (head_after ask status headers form last);

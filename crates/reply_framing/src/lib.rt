@@ -2,6 +2,19 @@
 //! there is room, while the body is pulled piece by piece.
 #![tactic(auto)]
 
+mod fault;
+mod form;
+mod framed;
+mod framer;
+mod head;
+mod hex;
+mod pull;
+mod reason;
+mod start;
+#[cfg(test)]
+mod tests;
 mod types;
 
+pub use fault::put_fault;
+pub use framer::Framer;
 pub use types::{After, Ask, Filled};
