@@ -6,7 +6,7 @@ use Rattle.std.proofs.lemmas.Bool.Decides.{nat_tests}
 use Rattle.rack_types.specs.declared.fault.Fault.{Fault}
 use Rattle.rack_types.specs.declared.fault.Fault.TheVariants.{T1}
 use Rattle.rack_types.specs.Request.{Parts}
-use Rattle.message_framing.specs.HeadText.{skip}
+use Rattle.message_framing.specs.HeadText.{skipped}
 use Rattle.message_framing.specs.Request.{IsRequest, Refusal, Begins, Wanting, Begun}
 use Rattle.message_framing.proofs.CallerLemmas.{begins_not_refused, refusal_stays}
 use Rattle.reply_framing.specs.declared.types.After.{After}
@@ -17,7 +17,7 @@ use Rattle.talk_core.specs.Teller.{Fates, Teller, fates_of}
 use Rattle.talk_core.specs.Talk.{Asks, AllKeep, EndsAs, Stop, wanting, refused, closed, hijacked, StopsAs, Talk, IsFinal, replies_to, time_out}
 use Rattle.talk_core.specs.Tail.{Voice, tail_of}
 use Rattle.talk_core.specs.Stands.{Word, silent, replies, refuses, times_out, hands_over, asked_by, text_by, Stands, IsHijack, ClosesAt, Partly}
-use Rattle.talk_core.specs.Laws.{Stays, HandsTo, IsEnding, StandsFor, PartlyStands}
+use Rattle.talk_core.specs.Laws.{Stays, HandsTo, IsEnding, BeginsTalk, PartlyStands}
 use Rattle.talk_core.proofs.TalkLemmas.{asks_more, replies_snoc, replies_append}
 use Rattle.talk_core.proofs.CompareLemmas.{GoesFurther, KeepsFront, keep_at, talk_keeps, asked_begins, answered_begins, stop_unique}
 
@@ -207,7 +207,7 @@ module _ {H : Type 0} (V : Voice H) (T : Teller H) (over : Bool) (given sent res
 
   begun_times_out : Begun rest → fault_reply T1 ≡ time_out wanting rest
   begun_times_out b =
-      let is : nat_lt (skip rest) (length rest) ≡ true = grind (arith, nat_tests) in
+      let is : nat_lt (skipped rest) (length rest) ≡ true = grind (arith, nat_tests) in
       sym (ap (λ (b : Bool). if b then fault_reply T1 else []) is)
 
   says : (word : Word H) (h : Stands V T over given sent k word rest lacks) → calls ≡ k + length (asked_by word) → ClosesAt closing calls (IsHijack T k word) rest

@@ -5,7 +5,7 @@ use Rattle.rack_types.specs.declared.fault.Fault.TheVariants.{F, T1}
 use Rattle.rack_types.specs.declared.limits.Version.{Version}
 use Rattle.rack_types.specs.declared.limits.Version.TheVariants.{Http10, Http11}
 use Rattle.rack_types.specs.Request.{Parts}
-use Rattle.message_framing.specs.HeadText.{skip}
+use Rattle.message_framing.specs.HeadText.{skipped}
 use Rattle.reply_framing.specs.declared.types.After.TheVariants.{Keep, Close}
 use Rattle.reply_framing.specs.Fault.{fault_reply}
 use Rattle.talk_core.specs.declared.ended.Life.{Life}
@@ -83,15 +83,15 @@ text_refused = refl
 
 -- the 408 comes where the rest is begun: by a letter or a lone CR, and not by whole empty lines
 timed_by_a_letter : timed_text numbers (get Http11 ∷ []) wanting (codes "\r\nG") ≡ 0 ∷ fault_reply T1
-unfolding skip
+unfolding skipped
 timed_by_a_letter = refl
 
 timed_by_a_return : time_out wanting (codes "\r") ≡ fault_reply T1
-unfolding skip
+unfolding skipped
 timed_by_a_return = refl
 
 not_timed : time_out wanting (codes "\r\n\n") ≡ []
-unfolding skip
+unfolding skipped
 not_timed = refl
 
 not_timed_behind_a_refusal : time_out (refused (F 3)) (codes "G") ≡ []

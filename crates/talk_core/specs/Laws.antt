@@ -44,7 +44,7 @@ IsEnding {H} V T over asked hijacked rest ending = (h : H) × HandsTo T asked h 
 -- of the last run were sent whole; and what was sent begins the replies of these runs with, where all requests were
 -- run, an ending. A reply that closes by draining is that of the talk's last request, and no byte stands behind it
 -- unless it is a hijack.
-pub record StandsFor {H : Type 0} (V : Voice H) (T : Teller H) (over : Bool) (asked : List Parts) (stop : Stop) (rest sent : List ℕ)
+pub record BeginsTalk {H : Type 0} (V : Voice H) (T : Teller H) (over : Bool) (asked : List Parts) (stop : Stop) (rest sent : List ℕ)
     (calls : ℕ) (closing : Option ℕ) : Type 0 where
   pub few : calls ≤ length asked
   pub whole : (j : ℕ) → j < calls → Starts (replies_to T 0 (take j asked)) sent
@@ -58,7 +58,7 @@ abbrev pub PartlyStands : {H : Type 0} → Voice H → Teller H → Bool → Lis
 PartlyStands {H} V T over given sent calls closing =
     (word : Word H) (lacks : List ℕ) (asked : List Parts) (stop : Stop) (rest : List ℕ)
     → Partly V T over given sent calls closing word lacks → Talk (fates_of T) given asked stop rest
-    → StandsFor V T over asked stop rest sent calls closing
+    → BeginsTalk V T over asked stop rest sent calls closing
 
 -- b is a body in chunks and nothing else, and these are its bytes: the chunks' data joined (RFC 9112, section 7.1)
 abbrev pub IsChunkedBody : List ℕ → List ℕ → Type 0
