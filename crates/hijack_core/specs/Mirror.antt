@@ -3,14 +3,14 @@ use Rattle.std.specs.Prelude.{◌≡◌, ℕ, ◌≤◌, Bool, true, false, List
 use Rattle.std.proofs.Common.{lit≤, le_trans}
 use Rattle.std.proofs.lemmas.Bool.{false≢true, true≢false}
 use Rattle.hijack_core.specs.declared.hijack.Said.{Said}
-use Rattle.hijack_core.specs.Said.{Begins, GoesOnAs}
+use Rattle.hijack_core.specs.Said.{Starts, GoesOnAs}
 
 -- each byte again, or nothing and the end
 abbrev pub mirrored : Bool → List ℕ → Said
 mirrored true bytes = record { bytes = bytes; go_on = true }
 mirrored false bytes = record { bytes = []; go_on = false }
 
-pub mirrored-begins : (on : Bool) (bytes more : List ℕ) → Begins (mirrored on bytes).bytes (mirrored on (bytes ++ more)).bytes
+pub mirrored-begins : (on : Bool) (bytes more : List ℕ) → Starts (mirrored on bytes).bytes (mirrored on (bytes ++ more)).bytes
 mirrored-begins true bytes more = (more, refl)
 mirrored-begins false bytes more = ([], refl)
 

@@ -7,8 +7,8 @@ abbrev pub and_then : Said → Said → Said
 and_then first second = record { bytes = first.bytes ++ second.bytes; go_on = second.go_on }
 
 -- xs begins ys
-abbrev pub Begins : List ℕ → List ℕ → Type 0
-Begins xs ys = (rest : List ℕ) × (ys ≡ xs ++ rest)
+abbrev pub Starts : List ℕ → List ℕ → Type 0
+Starts xs ys = (rest : List ℕ) × (ys ≡ xs ++ rest)
 
 -- behind these bytes it says what it says now to them and more, without what it said to them: cuts do not matter
 pub record GoesOnAs (says : List ℕ → Said) (ends : List ℕ → List ℕ) (bytes : List ℕ) (says_then : List ℕ → Said) (ends_then : List ℕ → List ℕ) : Type 0 where

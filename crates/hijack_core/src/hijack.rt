@@ -1,7 +1,7 @@
 // What takes a connection over.
 ghost use Rattle.std.specs.Prelude.{◌≡◌, ℕ, ◌≤◌, ◌++◌, [], List, length, true, false, IfOk};
 ghost use Rattle.hijack_core.specs.declared.hijack.Said.{Said as Answered};
-ghost use Rattle.hijack_core.specs.Said.{Begins, GoesOnAs};
+ghost use Rattle.hijack_core.specs.Said.{Starts, GoesOnAs};
 
 use rack_types::{Bytes, NoMemory};
 
@@ -45,7 +45,7 @@ pub trait Hijack {
         ensures ends { (bytes : List ℕ) → ends self.new bytes ≡ ends self.old bytes };
 
     // What is said to some bytes begins what is said to these and any behind them.
-    ghost begins: { (h : Self) (bytes more : List ℕ) → Begins (says h bytes).bytes (says h (bytes ++ more)).bytes };
+    ghost begins: { (h : Self) (bytes more : List ℕ) → Starts (says h bytes).bytes (says h (bytes ++ more)).bytes };
     // Where it goes on, some hijacker is what it is behind these bytes.
     ghost joins: { (h : Self) (bytes : List ℕ) → (says h bytes).go_on ≡ true
         → (later : Self) × GoesOnAs (says h) (ends h) bytes (says later) (ends later) };

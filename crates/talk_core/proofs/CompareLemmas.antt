@@ -5,7 +5,7 @@ use Rattle.std.proofs.Math.Seq.{take-append_seam, drop-append_seam}
 use Rattle.rack_types.specs.declared.fault.Fault.{Fault}
 use Rattle.rack_types.specs.Request.{Parts}
 use Rattle.message_framing.specs.Request.{IsRequest, Refusal, Begins, Wanting}
-use Rattle.message_framing.proofs.RequestLemmas.{begins_unique, begins_not_refused, refusal_unique}
+use Rattle.message_framing.proofs.CallerLemmas.{begins_unique, begins_not_refused, refusal_unique}
 use Rattle.reply_framing.specs.declared.types.After.{After}
 use Rattle.reply_framing.specs.declared.types.After.TheVariants.{Keep, Close, Hijack}
 use Rattle.talk_core.specs.Teller.{Fates}

@@ -12,7 +12,7 @@ use Rattle.talk_core.specs.Teller.{Teller, fates_of}
 use Rattle.talk_core.specs.Talk.{Asks, replies_to, Stop, wanting, refused, closed, hijacked}
 use Rattle.talk_core.specs.Tail.{Voice, tail_of}
 use Rattle.talk_core.specs.Stands.{Word, silent, replies, refuses, times_out, hands_over, asked_by, Stands, IsHijack, ClosesAt, Partly}
-use Rattle.talk_core.specs.Ended.{Past, Whole, WholeTo, Lacks}
+use Rattle.talk_core.specs.Ended.{Past, SentWhole, SentWholeTo, Lacks}
 use Rattle.talk_core.proofs.TalkLemmas.{replies_snoc}
 use Rattle.talk_core.proofs.StandsLemmas.{silent_sent, silent_asks, whole_sent, length_snoc}
 
@@ -31,7 +31,7 @@ close_is_no_hijack a x y = cc
 module _ {H : Type 0} (V : Voice H) (T : Teller H) (p : Past) where
   -- a reply was sent whole, and closes
   pub whole_closed : (rest : List ℕ) (r : Parts) (k : ℕ) → Stands V T p.over p.given p.sent k (replies r) rest [] → (T k r).after ≡ Close
-      → p.calls ≡ suc k → ClosesAt p.closing p.calls ((T k r).after ≡ Hijack) rest → Whole T p closed rest p.sent
+      → p.calls ≡ suc k → ClosesAt p.closing p.calls ((T k r).after ≡ Hijack) rest → SentWhole T p closed rest p.sent
   whole_closed rest r k h closes calls_is last = record {
     asked = h.whole ++ r ∷ [];
     talk = record {
@@ -52,7 +52,7 @@ module _ {H : Type 0} (V : Voice H) (T : Teller H) (p : Past) where
 
   -- the reply that names a refusal was sent whole
   pub whole_refused : (rest : List ℕ) (f : Fault) (k : ℕ) → Stands V T p.over p.given p.sent k (refuses f) rest []
-      → p.calls ≡ k → ClosesAt p.closing p.calls ⊥ rest → Whole T p (refused f) rest p.sent
+      → p.calls ≡ k → ClosesAt p.closing p.calls ⊥ rest → SentWhole T p (refused f) rest p.sent
   whole_refused rest f k h calls_is last = record {
     asked = h.whole;
     talk = record {
@@ -66,7 +66,7 @@ module _ {H : Type 0} (V : Voice H) (T : Teller H) (p : Past) where
 
   -- nothing stands at the front of what is left
   pub whole_wanting : (rest : List ℕ) (k : ℕ) → Stands V T p.over p.given p.sent k silent rest [] → Wanting rest
-      → p.calls ≡ k → ClosesAt p.closing p.calls ⊥ rest → Whole T p wanting rest p.sent
+      → p.calls ≡ k → ClosesAt p.closing p.calls ⊥ rest → SentWhole T p wanting rest p.sent
   whole_wanting rest k h none calls_is last = record {
     asked = h.whole;
     talk = record { asks = silent_asks V T p.over p.given p.sent rest k h; stops = (h.keeps, none) };
@@ -78,7 +78,7 @@ module _ {H : Type 0} (V : Voice H) (T : Teller H) (p : Past) where
   -- the reply that a request took too long was sent whole
   pub whole_timed : (rest : List ℕ) (k : ℕ) → Stands V T p.over p.given p.sent k times_out rest []
       → p.calls ≡ k → ClosesAt p.closing p.calls ⊥ rest
-      → (said : List ℕ) × Whole T p wanting rest said × Begun rest × (p.sent ≡ said ++ fault_reply T1)
+      → (said : List ℕ) × SentWhole T p wanting rest said × Begun rest × (p.sent ≡ said ++ fault_reply T1)
   whole_timed rest k h calls_is last = (
     replies_to T 0 h.whole,
     record {
@@ -98,7 +98,7 @@ module _ {H : Type 0} (V : Voice H) (T : Teller H) (p : Past) where
   -- a hijacker has said all that it had to say
   pub whole_handed : (rest : List ℕ) (r : Parts) (h : H) (k : ℕ) → Stands V T p.over p.given p.sent k (hands_over r h) rest []
       → p.calls ≡ suc k → ClosesAt p.closing p.calls (Unit {0}) rest
-      → (said : List ℕ) × WholeTo T p h rest said × (p.sent ≡ said ++ tail_of V h rest p.over)
+      → (said : List ℕ) × SentWholeTo T p h rest said × (p.sent ≡ said ++ tail_of V h rest p.over)
   whole_handed rest r h k s calls_is last =
       let e : k ≡ 0 + length s.whole = omega (arith, s.count) in
       let all : s.part ≡ (T k r).bytes ++ tail_of V h rest p.over = sym (append-nil s.part) ∙ s.part_is in (

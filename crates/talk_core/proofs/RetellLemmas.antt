@@ -17,7 +17,7 @@ use Rattle.talk_core.specs.Teller.{Stacks, Teller, AgreesBelow, fates_of, is_clo
 use Rattle.talk_core.specs.Talk.{AllKeep, EndsAs, Stop, wanting, refused, closed, hijacked, StopsAs, Talk, replies_to, last_word}
 use Rattle.talk_core.specs.Tail.{Voice, tail_of}
 use Rattle.talk_core.specs.Stands.{Word, silent, replies, refuses, times_out, hands_over, asked_by, text_by, Fits, Stands, IsHijack, ClosesAt, Partly}
-use Rattle.talk_core.specs.Ended.{Past, Whole, WholeTo, Lacks, LacksToHijack, EndsBy}
+use Rattle.talk_core.specs.Ended.{Past, SentWhole, SentWholeTo, Lacks, LacksToHijack, EndsBy}
 use Rattle.talk_core.proofs.EndedLemmas.{closes_for}
 
 module _ {H : Type 0} (T U : Teller H) where
@@ -101,7 +101,7 @@ module _ {H : Type 0} (T U : Teller H) where
   stops_agrees asked rest closed same s = ends_as_agrees Close asked same s
   stops_agrees asked rest hijacked same s = ends_as_agrees Hijack asked same s
 
-  pub whole_agrees : (p : Past) (stop : Stop) (rest said : List ℕ) → AgreesBelow p.calls T U → Whole T p stop rest said → Whole U p stop rest said
+  pub whole_agrees : (p : Past) (stop : Stop) (rest said : List ℕ) → AgreesBelow p.calls T U → SentWhole T p stop rest said → SentWhole U p stop rest said
   whole_agrees p stop rest said same h =
       let below : AgreesBelow (length h.asked) T U = λ i lt r. same i (omega (arith, h.calls_is)) r in
       record {
@@ -112,7 +112,7 @@ module _ {H : Type 0} (T U : Teller H) where
         closes = h.closes;
       }
 
-  pub whole_to_agrees : (p : Past) (h : H) (rest said : List ℕ) → AgreesBelow p.calls T U → WholeTo T p h rest said → WholeTo U p h rest said
+  pub whole_to_agrees : (p : Past) (h : H) (rest said : List ℕ) → AgreesBelow p.calls T U → SentWholeTo T p h rest said → SentWholeTo U p h rest said
   unfolding whole_agrees stops_agrees ends_as_agrees
   whole_to_agrees p h rest said same w =
       let s = w.whole.talk.stops in

@@ -11,7 +11,7 @@ use Rattle.talk_core.specs.Teller.{Teller, fates_of}
 use Rattle.talk_core.specs.Talk.{Asks, replies_to, wanting, refused, closed, hijacked}
 use Rattle.talk_core.specs.Tail.{Voice, tail_of}
 use Rattle.talk_core.specs.Stands.{Word, silent, replies, refuses, times_out, hands_over, asked_by, Stands, IsHijack, ClosesAt, Partly}
-use Rattle.talk_core.specs.Ended.{Past, Whole, WholeTo, Lacks}
+use Rattle.talk_core.specs.Ended.{Past, SentWhole, SentWholeTo, Lacks}
 use Rattle.talk_core.proofs.TalkLemmas.{asks_snoc, asks_more, replies_snoc, keep_snoc}
 
 module _ {H : Type 0} (V : Voice H) (T : Teller H) (over : Bool) where

@@ -1,10 +1,11 @@
 -- The requests that were asked on a connection, counted by what they say themselves, whoever answers them.
 use Rattle.std.specs.Prelude.{◌≡◌, ℕ, ◌+◌, Bool, not, ◌&&◌, if◌then◌else◌, List, [], ◌∷◌, length, Option, ⊤}
+use Rattle.rack_types.specs.Fields.{persists}
 use Rattle.rack_types.specs.Request.{Parts}
 use Rattle.reply_framing.specs.declared.types.After.TheVariants.{Keep, Close}
 use Rattle.talk_core.specs.Stands.{ClosesAt}
 use Rattle.talk_core.specs.Talk.{Asks}
-use Rattle.talk_core.specs.Teller.{Fates, is_last, persists}
+use Rattle.talk_core.specs.Teller.{Fates, is_last}
 
 -- a connection goes on behind a request that persists and isn't the last
 abbrev pub fates_by_request : Option ℕ → Fates

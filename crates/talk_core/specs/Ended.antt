@@ -32,7 +32,7 @@ pub record Past : Type 0 where
   pub closing : Option ℕ
 
 -- each request of the talk was run, and its text was sent whole; this is that text
-pub record Whole {H : Type 0} (T : Teller H) (p : Past) (stop : Stop) (rest said : List ℕ) : Type 0 where
+pub record SentWhole {H : Type 0} (T : Teller H) (p : Past) (stop : Stop) (rest said : List ℕ) : Type 0 where
   pub asked : List Parts
   pub talk : Talk (fates_of T) p.given asked stop rest
   pub calls_is : p.calls ≡ length asked
@@ -40,8 +40,8 @@ pub record Whole {H : Type 0} (T : Teller H) (p : Past) (stop : Stop) (rest said
   pub closes : ClosesAt p.closing p.calls (stop ≡ hijacked) rest
 
 -- the same of a talk that stopped at a hijack, with the hijacker
-pub record WholeTo {H : Type 0} (T : Teller H) (p : Past) (h : H) (rest said : List ℕ) : Type 0 where
-  pub whole : Whole T p hijacked rest said
+pub record SentWholeTo {H : Type 0} (T : Teller H) (p : Past) (h : H) (rest said : List ℕ) : Type 0 where
+  pub whole : SentWhole T p hijacked rest said
   pub hijacker : (T (length whole.talk.stops.front) whole.talk.stops.last).hijacker ≡ Some h
 
 -- of the requests that were run all replies but the last were sent whole, and of what was being said this is lacking
@@ -82,24 +82,24 @@ IdleAs (Drain level) p = (p.given ≢ []) × (1 ≤ level)
 
 -- what holds of a connection that ended so
 abbrev pub EndsBy : {H : Type 0} → Why → Voice H → Teller H → Past → Type 0
-EndsBy why.Closed V T p = (stop : Stop) × (rest : List ℕ) × IsClosed stop × Whole T p stop rest p.sent
-EndsBy why.PeerEnd V T p = (rest : List ℕ) × Whole T p wanting rest p.sent × (p.over ≡ true)
-EndsBy (why.Idle by) V T p = (rest : List ℕ) × Whole T p wanting rest p.sent × ¬ (Begun rest) × IdleAs by p
+EndsBy why.Closed V T p = (stop : Stop) × (rest : List ℕ) × IsClosed stop × SentWhole T p stop rest p.sent
+EndsBy why.PeerEnd V T p = (rest : List ℕ) × SentWhole T p wanting rest p.sent × (p.over ≡ true)
+EndsBy (why.Idle by) V T p = (rest : List ℕ) × SentWhole T p wanting rest p.sent × ¬ (Begun rest) × IdleAs by p
 EndsBy (why.TimedOut since now) V T p =
     (rest : List ℕ) × (said : List ℕ)
-    × Whole T p wanting rest said × Begun rest × (p.sent ≡ said ++ fault_reply T1) × (since + stock_limits.request_ms ≤ now)
+    × SentWhole T p wanting rest said × Begun rest × (p.sent ≡ said ++ fault_reply T1) × (since + stock_limits.request_ms ≤ now)
 EndsBy (why.Stalled since now) V T p = (lacks : List ℕ) × Lacks V T p lacks × (lacks ≢ []) × (since + stock_limits.write_ms ≤ now)
 EndsBy (why.Unread level) V T p =
     (p.given ≡ []) × (p.sent ≡ []) × (p.calls ≡ 0) × (p.closing ≡ None) × (1 ≤ level)
 EndsBy why.ReadFailed V T p =
     (0 < p.failed_reads)
-    × (((stop : Stop) × (rest : List ℕ) × IsUntaken stop × Whole T p stop rest p.sent) ⊎ LacksToHijack V T p)
+    × (((stop : Stop) × (rest : List ℕ) × IsUntaken stop × SentWhole T p stop rest p.sent) ⊎ LacksToHijack V T p)
 EndsBy why.WriteFailed V T p = (0 < p.failed_writes) × ((lacks : List ℕ) × Lacks V T p lacks × (lacks ≢ []))
 EndsBy (why.Halted level) V T p = (level ≡ 2) × ((lacks : List ℕ) × Lacks V T p lacks)
 EndsBy why.NoMemory V T p = (lacks : List ℕ) × Lacks V T p lacks
 EndsBy {H} why.Hijacked V T p =
     (h : H) × (rest : List ℕ) × (said : List ℕ)
-    × WholeTo T p h rest said × (p.sent ≡ said ++ tail_of V h rest p.over) × NeedsDrain (goes_on V h rest p.over) p.told
+    × SentWholeTo T p h rest said × (p.sent ≡ said ++ tail_of V h rest p.over) × NeedsDrain (goes_on V h rest p.over) p.told
 
 -- a connection has one life, which begins at its first request; one that could not be opened has none
 abbrev pub AreLives : List Life → Type 0
@@ -177,7 +177,7 @@ WhyByDrain why.WriteFailed V T p = ⊥
 WhyByDrain (why.Halted level) V T p = ⊤
 WhyByDrain why.NoMemory V T p = ⊥
 WhyByDrain {H} why.Hijacked V T p =
-    (h : H) × (rest : List ℕ) × (said : List ℕ) × WholeTo T p h rest said × (goes_on V h rest p.over ≡ true)
+    (h : H) × (rest : List ℕ) × (said : List ℕ) × SentWholeTo T p h rest said × (goes_on V h rest p.over ≡ true)
 
 abbrev pub ByDrain : {H : Type 0} → Why → Voice H → Teller H → Past → Type 0
 ByDrain ended V T p = IsSome p.closing ⊎ WhyByDrain ended V T p

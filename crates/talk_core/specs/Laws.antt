@@ -3,8 +3,8 @@ use Rattle.std.specs.Prelude.{◌≡◌, ◌≢◌, ℕ, ◌<◌, ◌≤◌, Boo
 use Rattle.std.specs.List.{concat}
 use Rattle.rack_types.specs.Request.{Parts}
 use Rattle.rack_types.specs.Limits.{stock_limits}
+use Rattle.hijack_core.specs.Said.{Starts}
 use Rattle.message_framing.specs.Chunks.{ChunksAt}
-use Rattle.reply_framing.specs.declared.types.After.TheVariants.{Keep}
 use Rattle.reply_framing.specs.declared.types.Form.TheVariants as form
 use Rattle.reply_framing.specs.Body.{body_bytes}
 use Rattle.reply_framing.specs.Fault.{fault_reply}
@@ -25,10 +25,6 @@ Stays fates given more =
     (asked : List Parts) (stop : Stop) (rest : List ℕ) → IsFinal stop → Talk fates given asked stop rest
     → Talk fates (given ++ more) asked stop (rest ++ more)
 
--- xs begins ys
-abbrev pub Starts : List ℕ → List ℕ → Type 0
-Starts xs ys = (rest : List ℕ) × (ys ≡ xs ++ rest)
-
 -- the last of these requests hands the connection to this hijacker
 pub record HandsTo {H : Type 0} (T : Teller H) (asked : List Parts) (h : H) : Type 0 where
   pub front : List Parts
@@ -48,7 +44,7 @@ IsEnding {H} V T over asked hijacked rest ending = (h : H) × HandsTo T asked h 
 -- of the last run were sent whole; and what was sent begins the replies of these runs with, where all requests were
 -- run, an ending. A reply that closes by draining is that of the talk's last request, and no byte stands behind it
 -- unless it is a hijack.
-pub record StandsFor {H : Type 0} (V : Voice H) (T : Teller H) (over : Bool) (asked : List Parts) (stop : Stop) (rest sent : List ℕ)
+pub record BeginsTalk {H : Type 0} (V : Voice H) (T : Teller H) (over : Bool) (asked : List Parts) (stop : Stop) (rest sent : List ℕ)
     (calls : ℕ) (closing : Option ℕ) : Type 0 where
   pub few : calls ≤ length asked
   pub whole : (j : ℕ) → j < calls → Starts (replies_to T 0 (take j asked)) sent
@@ -57,16 +53,12 @@ pub record StandsFor {H : Type 0} (V : Voice H) (T : Teller H) (over : Bool) (as
   pub front : Starts sent (replies_to T 0 (take calls asked) ++ ending)
   pub closes : ClosesAt closing (length asked) (stop ≡ hijacked) rest
 
--- no reply keeps that closes by draining
-abbrev pub NeverKeeps : {H : Type 0} → Teller H → Option ℕ → Type 0
-NeverKeeps T closing = (k : ℕ) (r : Parts) → closing ≡ Some k → (T k r).after ≢ Keep
-
 -- what stands in part stands for each talk on its bytes
 abbrev pub PartlyStands : {H : Type 0} → Voice H → Teller H → Bool → List ℕ → List ℕ → ℕ → Option ℕ → Type 0
 PartlyStands {H} V T over given sent calls closing =
-    (word : Word H) (lacks : List ℕ) (asked : List Parts) (stop : Stop) (rest : List ℕ) → NeverKeeps T closing
+    (word : Word H) (lacks : List ℕ) (asked : List Parts) (stop : Stop) (rest : List ℕ)
     → Partly V T over given sent calls closing word lacks → Talk (fates_of T) given asked stop rest
-    → StandsFor V T over asked stop rest sent calls closing
+    → BeginsTalk V T over asked stop rest sent calls closing
 
 -- b is a body in chunks and nothing else, and these are its bytes: the chunks' data joined (RFC 9112, section 7.1)
 abbrev pub IsChunkedBody : List ℕ → List ℕ → Type 0

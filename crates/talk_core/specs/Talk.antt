@@ -4,7 +4,7 @@ use Rattle.std.specs.Prelude.{◌≡◌, ℕ, ◌+◌, nat_lt, if◌then◌else�
 use Rattle.rack_types.specs.declared.fault.Fault.{Fault}
 use Rattle.rack_types.specs.declared.fault.Fault.TheVariants.{T1}
 use Rattle.rack_types.specs.Request.{Parts}
-use Rattle.message_framing.specs.HeadText.{skip}
+use Rattle.message_framing.specs.HeadText.{skipped}
 use Rattle.message_framing.specs.Request.{IsRequest, Refusal, Wanting}
 use Rattle.reply_framing.specs.declared.types.After.{After}
 use Rattle.reply_framing.specs.declared.types.After.TheVariants.{Keep, Close, Hijack}
@@ -73,7 +73,7 @@ text T asked stop = replies_to T 0 asked ++ last_word stop
 
 -- the reply that ends a talk in which a request was begun and did not become whole
 abbrev pub time_out : Stop → List ℕ → List ℕ
-time_out wanting rest = if nat_lt (skip rest) (length rest) then fault_reply T1 else []
+time_out wanting rest = if nat_lt (skipped rest) (length rest) then fault_reply T1 else []
 time_out (refused f) rest = []
 time_out closed rest = []
 time_out hijacked rest = []

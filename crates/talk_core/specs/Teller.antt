@@ -4,7 +4,7 @@ use Rattle.rack_types.specs.declared.answer.Answer.{Answer}
 use Rattle.rack_types.specs.declared.peer.Local.{Local}
 use Rattle.rack_types.specs.Body.{Content}
 use Rattle.rack_types.specs.Env.{Pairs}
-use Rattle.rack_types.specs.Fields.{persists_by, values_of}
+use Rattle.rack_types.specs.Fields.{persists}
 use Rattle.rack_types.specs.Limits.{stock_limits}
 use Rattle.rack_types.specs.Request.{Parts}
 use Rattle.rack_env.specs.Environment.{env_pairs}
@@ -43,10 +43,6 @@ is_closing (Some j) k = k == j
 -- the request is the last: the 10,000th, or the one whose reply closes by draining
 abbrev pub is_last : Option ℕ → ℕ → Bool
 is_last closing k = (k == stock_limits.requests - 1) || is_closing closing k
-
--- the connection may go on behind the request
-abbrev pub persists : Parts → Bool
-persists r = persists_by r.version (values_of (codes "connection") r.fields)
 
 -- what a reply has to know of its request
 abbrev pub ask_of : Parts → Ask
