@@ -1,7 +1,7 @@
 -- An environment of a sound request breaks no rule.
 use Rattle.std.proofs.Common.{◌≡◌, ℕ, ◌<◌, ◌^◌, Bool, true, false, cond, not, ◌||◌, ◌&&◌, ◌==◌, List, [], ◌∷◌, ◌++◌, length, Option, Some, None, is_some, decimal, refl, ap, ◌∙◌, bytes_eq, codes, arith, nat_lt}
 use Rattle.rack_text.specs.Decimal.{is_decimal, decimal_value}
-use Rattle.rack_text.proofs.DecimalLemmas.{decimal_number-decimal}
+use Rattle.rack_text.proofs.CallerLemmas.{decimal_number-decimal}
 use Rattle.rack_types.specs.Env.{Pairs, get_pair}
 use Rattle.rack_types.specs.Fields.{values_of}
 use Rattle.rack_types.specs.Request.{Parts, with_body}

@@ -5,3 +5,4 @@ pub mod HostLemmas
 pub mod ListLemmas
 mod HexLemmas
 mod EscapedLemmas
+pub mod CallerLemmas

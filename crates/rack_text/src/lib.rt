@@ -14,7 +14,7 @@ pub use decimal::{is_decimal, read_decimal};
 pub use escaped::unescape;
 pub use host::{Host, read_host};
 pub use list::{ListElements, elements, list_has};
-pub use number::{write_decimal, write_hex};
+pub use number::{put_hex, write_decimal, write_hex};
 pub use word::{is_token, same_ignoring_case};
 
 #[cfg(test)]

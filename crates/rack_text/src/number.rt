@@ -5,9 +5,6 @@ ghost use Rattle.std.specs.Fmt.{digits, digit_glyph};
 use itoa::Buffer;
 use std::alloc::AllocError;
 
-// As many digits as std's numbers may have.
-const DIGITS: usize = 64;
-
 /// Appends the number in decimal digits, most significant first, without zeros in front; 0 is `0`.
 ///
 /// It takes memory for at most 39 bytes. Where that is refused, nothing is appended.
@@ -26,17 +23,18 @@ pub fn write_hex(n: u64, out: &mut Vec<u8>) -> Result<(), AllocError>
     ensures written { OnOk result (out.new.items ≡ out.old.items ++ digits 16 false n) }
     ensures unchanged { OnErr result (out.new.items ≡ out.old.items) }
 {
-    let mut room = [0; DIGITS];
-    let start = put_digits(n, &mut room);
+    let mut room = [0; 64];
+    let start = put_hex(n, &mut room);
     out.extend_from_slice(&room[start..])
 }
 
-// Writes the digits to the end of the room, and answers where they begin.
-fn put_digits(n: u64, room: &mut [u8; DIGITS]) -> usize
+/// Writes the number in hexadecimal digits, as `write_hex` does, to the end of the room, and answers
+/// where they begin. It takes no memory.
+pub fn put_hex(n: u64, room: &mut [u8; 64]) -> usize
     ensures within { result ≤ 64 }
     ensures digits { drop result room.new ≡ digits 16 false n }
 {
-    let mut start = DIGITS;
+    let mut start = 64;
     let mut rest = n;
     while start > 0 {
         start -= 1;

@@ -4,7 +4,6 @@ pub mod CallerLemmas
 mod FaultLemmas
 mod FillLemmas
 mod FramerLemmas
-mod HexLemmas
 mod LineLemmas
 mod PlaceLemmas
 mod PullLemmas

@@ -2,7 +2,7 @@
 ghost use Rattle.circular_buffer.specs.Buffer.{buffer};
 ghost use Rattle.std.specs.Prelude.{◌≡◌, ◌≤◌, ◌<◌, ◌++◌, ◌+◌, [], length, take, drop, vec_len, vec_capacity, ℕ, List, Option, None};
 
-use crate::hex::write_hex;
+use rack_text::put_hex;
 use crate::types::Form;
 use circular_buffer::HeapCircularBuffer;
 
@@ -95,7 +95,7 @@ impl Framed {
         ensures same { (self.new.lead_at ≡ 0) × (self.new.piece_left ≡ self.old.piece_left) × (self.new.tail_left ≡ self.old.tail_left) }
     {
         let mut room = [0; 64];
-        let start = write_hex(size as u64, &mut room);
+        let start = put_hex(size as u64, &mut room);
         self.lead.extend_from_slice(&room[start..]).unwrap();
         self.lead.extend_from_slice(b"\r\n").unwrap();
     }

@@ -7,7 +7,6 @@ mod form;
 mod framed;
 mod framer;
 mod head;
-mod hex;
 mod pull;
 mod reason;
 mod start;

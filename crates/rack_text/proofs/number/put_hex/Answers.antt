@@ -2,7 +2,7 @@ use Rattle.std.proofs.Common.{◌≤◌, ◌∙◌, arith, ap, false, length}
 use Rattle.std.proofs.lemmas.List.{drop_all}
 use Rattle.std.specs.Fmt.{digits_onto}
 use Rattle.rack_text.proofs.HexLemmas.{digits_from_none}
-use Rattle.rack_text.proofs.number.put_digits.Goals as goal
+use Rattle.rack_text.proofs.number.put_hex.Goals as goal
 
 pub loop-start-init : goal.loop-start-init
 loop-start-init c =

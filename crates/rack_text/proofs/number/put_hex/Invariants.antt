@@ -1,6 +1,6 @@
 use Rattle.std.proofs.Common.{◌≡◌, ◌≤◌, false, length, drop}
 use Rattle.std.specs.Fmt.{digits, digits_onto}
-use Rattle.rack_text.proofs.number.put_digits.Given as goal
+use Rattle.rack_text.proofs.number.put_hex.Given as goal
 
 -- the digits of what is left, before those that are written, are the digits of the number
 abbrev pub invariant-loop-start : goal.invariant-loop-start
