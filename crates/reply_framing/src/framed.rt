@@ -2,9 +2,9 @@
 ghost use Rattle.circular_buffer.specs.Buffer.{buffer};
 ghost use Rattle.std.specs.Prelude.{◌≡◌, ◌≤◌, ◌<◌, ◌++◌, ◌+◌, [], length, take, drop, vec_len, vec_capacity, ℕ, List, Option, None};
 
-use rack_text::put_hex;
 use crate::types::Form;
 use circular_buffer::HeapCircularBuffer;
+use rack_text::put_hex;
 
 /// At most a head, or what frames one piece with what is left of that piece, which its body lends.
 #[derive(Drop)]
