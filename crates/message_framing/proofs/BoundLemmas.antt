@@ -1,8 +1,8 @@
 -- Bytes in which nothing stands are bounded.
-use Rattle.std.proofs.Common.{◌≡◌, ℕ, ◌+◌, ◌-◌, ◌*◌, ◌<◌, ◌≤◌, ◌⊎◌, Bool, true, false, MatchBool, List, [], ◌++◌, length, take, drop, Option, None, Some, inl, inr, refl, ap, sym, ◌∙◌, subst, arith, length-append, length-take, length-drop}
+use Rattle.std.proofs.Common.{◌≡◌, ℕ, ◌+◌, ◌-◌, ◌<◌, ◌≤◌, ◌⊎◌, Bool, true, false, MatchBool, List, [], length, take, drop, Option, None, Some, inl, inr, refl, ap, sym, ◌∙◌, subst, arith, length-append, length-take, length-drop}
 use Rattle.std.specs.List.{concat}
 use Rattle.std.proofs.lemmas.Bool.{cases_lt}
-use Rattle.std.proofs.lemmas.List.{take-take, drop-take, take_all}
+use Rattle.std.proofs.lemmas.List.{take-take, drop-take}
 use Rattle.std.proofs.Math.Seq.{take-append_seam}
 use Rattle.httparse.specs.Grammar.{RequestHead}
 use Rattle.rack_types.specs.declared.fault.Fault.{Fault}
@@ -13,10 +13,10 @@ use Rattle.message_framing.specs.declared.fields.Framing.TheVariants.{Stated, Ch
 use Rattle.message_framing.specs.HeadText.{head_text}
 use Rattle.message_framing.specs.Head.{IsHead, head_fault, head_framing, is_chunked, request_with}
 use Rattle.message_framing.specs.Framing.{body_limit}
-use Rattle.message_framing.specs.Body.{IsBody, BodyRefusal}
+use Rattle.message_framing.specs.Body.{IsBody}
 use Rattle.message_framing.specs.Places.{StandsIn, StandsHead}
 use Rattle.message_framing.specs.Held.{EndsHead}
-use Rattle.message_framing.specs.Request.{head_limit, head_within, has_too_many_lines, FaultOrBody, HeadRefusal, TextRefusal, Refusal, IsRequest, Begins, Wanting, waiting_limit}
+use Rattle.message_framing.specs.Request.{head_within, has_too_many_lines, FaultOrBody, HeadRefusal, Begins, Wanting, waiting_limit}
 use Rattle.message_framing.proofs.LengthLemmas.{head_states, head_has_target}
 use Rattle.message_framing.proofs.OpenBodyLemmas.{either_way, IsOpenBody, body_bounded}
 use Rattle.message_framing.proofs.RequestLemmas.{ends_at, ends_so, head_take, too_long, refused_at, request_of_body, refusal_of_body}

@@ -8,7 +8,6 @@ use Rattle.message_framing.specs.declared.standing.Standing.{Standing}
 use Rattle.message_framing.specs.Scan.{behind}
 use Rattle.message_framing.specs.Intake.{Fed, Spent}
 use Rattle.message_framing.specs.Held.{FedAt, IsStated, IsChunked, StandsWholeAt, SpentAt}
-use Rattle.message_framing.specs.declared.intake.Feed.TheVariants.{Whole, Refused}
 use Rattle.message_framing.specs.declared.standing.ChunkedBody.{ChunkedBody}
 use Rattle.message_framing.specs.declared.standing.StatedBody.{StatedBody}
 use Rattle.message_framing.specs.Chunks.{ChunksAt}

@@ -15,7 +15,6 @@ use Rattle.message_framing.specs.Intake.{Fed, NeedsMemory}
 use Rattle.message_framing.specs.Held.{IsOpen, EndsHead}
 use Rattle.message_framing.specs.FeedParts.{FedOrLacks}
 use Rattle.message_framing.specs.declared.fields.Framing.{Framing}
-use Rattle.message_framing.specs.declared.intake.Feed.TheVariants.{Whole, Refused}
 use Rattle.message_framing.specs.declared.standing.Standing.{Standing}
 use Rattle.message_framing.specs.Head.{is_chunked, request_with}
 use Rattle.message_framing.specs.Body.{IsBody}

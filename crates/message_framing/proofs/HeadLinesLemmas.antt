@@ -1,6 +1,6 @@
 -- A head has a line for each field beside the request line and the empty line, and no other.
 use mathlib.Core.Bool.{cond}
-use Rattle.std.proofs.Common.{◌≡◌, ℕ, suc, ◌+◌, ◌-◌, ◌≤◌, Bool, true, false, ◌==◌, List, [], ◌∷◌, ◌++◌, length, drop, count_by, codes, refl, ap, sym, ◌∙◌, subst, arith}
+use Rattle.std.proofs.Common.{◌≡◌, ℕ, ◌+◌, ◌-◌, Bool, true, false, ◌==◌, List, [], ◌∷◌, ◌++◌, length, drop, count_by, codes, refl, ap, sym, ◌∙◌, subst, arith}
 use Rattle.std.specs.List.{flat_map}
 use Rattle.std.proofs.lemmas.Bool.{eqb-true, le-ltb}
 use Rattle.std.proofs.lemmas.List.{append-nil}
@@ -12,7 +12,7 @@ use Rattle.httparse.specs.Grammar as grammar
 use Rattle.message_framing.specs.HeadText.{skipped}
 use Rattle.message_framing.specs.Head.{IsHead, is_line_feed}
 use Rattle.message_framing.specs.Request.{has_too_many_lines}
-use Rattle.message_framing.proofs.HeadTextLemmas.{bool_cases, not_feed}
+use Rattle.message_framing.proofs.HeadTextLemmas.{not_feed}
 
 abbrev feeds : List ℕ → ℕ
 feeds bytes = count_by is_line_feed bytes

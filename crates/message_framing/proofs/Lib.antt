@@ -10,6 +10,7 @@ pub mod DecodingLemmas
 pub mod FedLemmas
 pub mod FeedHeadLemmas
 pub mod FieldLemmas
+pub mod FirstPlaceLemmas
 pub mod FrontLemmas
 pub mod GoOnLemmas
 pub mod HeadLemmas

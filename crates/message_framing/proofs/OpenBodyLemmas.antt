@@ -1,7 +1,7 @@
 -- Chunks that are neither whole nor refused are bounded.
-use Rattle.std.proofs.Common.{◌≡◌, ℕ, zero, suc, ◌+◌, ◌-◌, ◌*◌, ◌<◌, ◌≤◌, ◌⊎◌, Bool, true, false, ◌&&◌, ◌==◌, List, [], ◌∷◌, ◌++◌, length, take, drop, Option, None, Some, inl, inr, refl, ap, sym, ◌∙◌, subst, arith, length-append, length-take, length-drop, append_assoc, lt-ltb, le-leb}
+use Rattle.std.proofs.Common.{◌≡◌, ℕ, zero, suc, ◌+◌, ◌-◌, ◌*◌, ◌<◌, ◌≤◌, ◌⊎◌, Bool, true, false, ◌&&◌, ◌==◌, List, [], ◌∷◌, ◌++◌, length, take, drop, Option, None, Some, inl, inr, refl, ap, sym, ◌∙◌, subst, arith, length-append, length-take, length-drop, append_assoc, le-leb}
 use Rattle.std.proofs.lemmas.Bool.{cases_lt, eqb-true}
-use Rattle.std.proofs.lemmas.List.{take-append-drop, take-take, take_all}
+use Rattle.std.proofs.lemmas.List.{take-append-drop, take-take}
 use Rattle.std.proofs.Math.Seq.{drop-append_seam}
 use Rattle.httparse.specs.Grammar.{chunk_size}
 use Rattle.rack_types.specs.declared.fault.Fault.{Fault}
@@ -9,7 +9,7 @@ use Rattle.rack_types.specs.declared.fault.Fault.TheVariants.{F}
 use Rattle.message_framing.specs.declared.scan.Line.TheVariants.{Start}
 use Rattle.message_framing.specs.Scan.{ends}
 use Rattle.message_framing.specs.Framing.{body_limit}
-use Rattle.message_framing.specs.Chunks.{size_line_limit, trailer_limit, line_end, size_line_within, trailer_end, trailer_within, NamesSize, IsTrailer, has_too_many_fields, Front, chunk, last, refused, data_front, LineFront, FrontIs, ChunksAt, ChunksRefused}
+use Rattle.message_framing.specs.Chunks.{size_line_limit, trailer_limit, line_end, size_line_within, trailer_within, NamesSize, IsTrailer, has_too_many_fields, chunk, last, refused, LineFront, FrontIs, ChunksAt, ChunksRefused}
 use Rattle.message_framing.specs.Decoding.{IsSizeLine, TrailerFault, trailer_front}
 use Rattle.message_framing.proofs.LineEndLemmas.{line_at, line_end_take, trailer_at, trailer_end_is}
 use Rattle.message_framing.proofs.FrontLemmas.{front_stays, refused_is_whole}

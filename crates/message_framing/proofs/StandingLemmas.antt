@@ -1,5 +1,5 @@
 -- What stands in an intake behind a piece, by the answer.
-use Rattle.std.proofs.Common.{◌≡◌, ℕ, ◌<◌, ◌≤◌, List, ◌++◌, length, take, true, false, Ok, Err, refl, sym, ap}
+use Rattle.std.proofs.Common.{◌≡◌, ℕ, ◌≤◌, List, ◌++◌, length, take, true, false, Ok, Err, refl, sym, ap}
 use Rattle.std.specs.declared.alloc.AllocError.{AllocError}
 use Rattle.rack_types.specs.declared.fault.Fault.{Fault}
 use Rattle.rack_types.specs.Request.{Parts, framed}

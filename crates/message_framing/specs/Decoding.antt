@@ -1,6 +1,6 @@
 -- What a reader of chunks holds. This serves inner contracts alone: what stands in the bytes is said by
 -- `Chunks` and `Body`.
-use Rattle.std.specs.Prelude.{◌≡◌, ℕ, ◌+◌, ◌<◌, ◌≤◌, Option, List, [], ◌∷◌, ◌++◌, length, take, drop, None, Some, Result, Ok, Err, ⊤, vec_len, vec_capacity}
+use Rattle.std.specs.Prelude.{◌≡◌, ℕ, ◌+◌, ◌<◌, ◌≤◌, Option, List, [], ◌∷◌, ◌++◌, length, take, None, Some, Result, Ok, Err, ⊤, vec_len, vec_capacity}
 use Rattle.std.specs.List.{concat}
 use Rattle.std.specs.declared.alloc.AllocError.{AllocError}
 use Rattle.rack_types.specs.declared.fault.Fault.{Fault}

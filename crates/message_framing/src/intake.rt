@@ -197,7 +197,7 @@ impl Intake {
         requires { StandsWhole self.old }
         ensures { Fed self.new [] }
     {
-        let Standing::Whole(request) = mem::replace(&mut self.standing, Standing::Lacking) else {
+        let Standing::Whole(request) = mem::replace(&mut self.standing, Standing::Open) else {
             unreachable!()
         };
         let (mut bytes, places) = request.into_room();
@@ -205,7 +205,6 @@ impl Intake {
         self.bytes = bytes;
         self.places = places;
         self.line = Line::Skipping;
-        self.standing = Standing::Open;
     }
 }
 

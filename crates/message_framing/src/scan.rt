@@ -1,10 +1,11 @@
 // Where a head or a trailer ends, found piece by piece.
 ghost use Rattle.std.specs.Prelude.{◌≡◌, ◌≤◌, length, count_by, drop, take};
+ghost use Rattle.memchr.specs.Find.{IsFirstByte, is_byte};
 ghost use Rattle.message_framing.specs.Head.{is_line_feed};
 ghost use Rattle.message_framing.specs.HeadText.{skipped};
 ghost use Rattle.message_framing.specs.Scan.{next, behind, ends};
 
-use memchr::{memchr, memchr_iter};
+use memchr::memchr_iter;
 
 /// What the last line of the bytes so far is.
 #[derive(Clone, Copy, Debug, PartialEq, Eq)]
@@ -48,7 +49,7 @@ impl Line {
         let mut i = 0;
         while i < piece.len() {
             if let Line::Text = *self {
-                match memchr(b'\n', suffix(piece, i)) {
+                match next_line_feed(suffix(piece, i)) {
                     None => return None,
                     Some(k) => i += k,
                 }
@@ -61,6 +62,14 @@ impl Line {
         }
         None
     }
+}
+
+// The place of the next line feed. An iterator looks near first, and lines are short.
+fn next_line_feed(bytes: &[u8]) -> Option<usize>
+    ensures { IsFirstByte (is_byte 10) bytes.now result }
+{
+    let mut feeds = memchr_iter(b'\n', bytes);
+    feeds.next()
 }
 
 // How many line feeds the bytes have. The iterator's own `count` looks at each byte by itself; counted as the

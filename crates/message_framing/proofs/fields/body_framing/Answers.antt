@@ -1,10 +1,8 @@
-use Rattle.std.proofs.Common.{sym, ◌∙◌, ◌≡◌, true, false, [], map, codes, subst, Option, Some, None}
-use Rattle.std.specs.List.{flat_map}
+use Rattle.std.proofs.Common.{sym, ◌∙◌, ◌≡◌, true, false, [], map, codes, subst, Option}
 use Rattle.httparse.specs.Spans.{header_bytes}
-use Rattle.rack_text.specs.Lists.{elements}
 use Rattle.rack_types.specs.Fields.{values_of}
 use Rattle.message_framing.specs.declared.fields.Codings.{Codings}
-use Rattle.message_framing.specs.Found.{CodingsAs, CodingsFound}
+use Rattle.message_framing.specs.Found.{CodingsFound}
 use Rattle.message_framing.specs.Framing.{is_host_right}
 use Rattle.message_framing.proofs.FieldLemmas.{fields_host, stated_tell, transfer_none, transfer_some}
 use Rattle.message_framing.proofs.fields.body_framing.Goals as goal

@@ -1,5 +1,4 @@
-use Rattle.std.proofs.Common.{sym, ◌∙◌, ap, codes, subst, List, ℕ}
-use Rattle.rack_types.specs.Fields.{values_of}
+use Rattle.std.proofs.Common.{sym, ◌∙◌, codes, subst, List, ℕ}
 use Rattle.message_framing.specs.Found.{CodingsFound}
 use Rattle.message_framing.proofs.FieldLemmas.{codings_more, values_with, values_without}
 use Rattle.message_framing.proofs.fields.codings_with.Goals as goal

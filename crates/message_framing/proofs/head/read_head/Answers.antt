@@ -1,8 +1,6 @@
-use Rattle.std.proofs.Common.{ap, sym, ◌∙◌, ◌≡◌, false, refl, drop, [], subst, List, ℕ, take, map, None, Some}
+use Rattle.std.proofs.Common.{ap, sym, ◌∙◌, ◌≡◌, false, refl, drop, [], subst, List, ℕ}
 use Rattle.std.proofs.lemmas.Result.{err_from_is_err_and}
-use Rattle.httparse.specs.Spans.{header_bytes}
 use Rattle.rack_types.specs.Request.{Parts, parts_at}
-use Rattle.rack_types.specs.Sound.{IsSound}
 use Rattle.message_framing.specs.HeadText.{head_text, skipped}
 use Rattle.message_framing.specs.Head.{is_chunked}
 use Rattle.message_framing.specs.Places.{StandsIn}

@@ -1,5 +1,4 @@
 use Rattle.std.proofs.Common.{sym, ◌∙◌, subst, List, ℕ}
-use Rattle.rack_types.specs.Fields.{values_of}
 use Rattle.message_framing.specs.Found.{OccursAs}
 use Rattle.message_framing.proofs.FieldLemmas.{found_first, found_again, values_with, values_without}
 use Rattle.message_framing.proofs.fields.Occurs.with.Goals as goal
