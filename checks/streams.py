@@ -96,8 +96,8 @@ def check_leaving_reader(checks):
         with open("large", "rb") as stdin:
             child = subprocess.Popen([PUMA, "once", "echo.stack"], stdin=stdin, stdout=subprocess.PIPE, stderr=subprocess.PIPE)
         front = b""
-        while len(front) < some:
-            front += os.read(child.stdout.fileno(), some - len(front))
+        while len(front) < some and (more := os.read(child.stdout.fileno(), some - len(front))):
+            front += more
         child.stdout.close()
         errors = child.stderr.read()
         child.stderr.close()
