@@ -1,5 +1,5 @@
 -- What a watch answers is the break of a body, a piece at a time.
-use Rattle.std.proofs.Common.{◌≡◌, ℕ, Bool, true, false, cond, List, [], ◌∷◌, length, Option, Some, None, option_map, refl, ap, ◌∙◌, sym}
+use Rattle.std.proofs.Common.{◌≡◌, ℕ, Bool, true, false, cond, List, [], ◌∷◌, length, Option, Some, None, option_map, refl, ap, sym}
 use Rattle.rack_types.specs.declared.rules.BodyRule.{BodyRule}
 use Rattle.rack_types.specs.BodyRules.{body_break, body_rule, a_piece_later, breaks_B1, left_behind, end_rule}
 use Rattle.lint_core.specs.Watch.{here_or_later, at_the_end}

@@ -1,8 +1,8 @@
 // What the headers of an answer are, by one walk through them.
-ghost use Rattle.std.specs.Prelude.{◌≡◌, ◌<◌, List, ℕ, length, slice_get, Some, bytes_eq};
+ghost use Rattle.std.specs.Prelude.{◌≡◌, ◌<◌, length, Some, bytes_eq};
 ghost use Rattle.std.specs.List.{list_any};
 ghost use Rattle.rack_types.specs.AnswerRules.{is_control, is_upper};
-ghost use Rattle.rack_types.specs.Headers.{header_names, values_at};
+ghost use Rattle.rack_types.specs.Headers.{values_at};
 ghost use Rattle.lint_core.specs.Found.{found_in, with_header, stated_by};
 
 use rack_text::{is_token, read_decimal};
@@ -47,29 +47,31 @@ pub(crate) fn look_through(headers: &Headers) -> Found
     let mut i = headers.len();
     'headers: while 0 < i {
         i -= 1;
-        found = look_at(headers, i, found);
+        found = look_at(headers.name(i), headers, i, found);
     }
     found
 }
 
-// What is found in the header at this place and those behind it, by what is found in those.
-fn look_at(headers: &Headers, i: usize, behind: Found) -> Found
+// What is found in the header at this place, which has this name, and those behind it, by what is found in
+// those. Of a name that is known here nothing else is to be looked at.
+fn look_at(name: &[u8], headers: &Headers, i: usize, behind: Found) -> Found
     requires { i < length headers.now }
-    ensures { (name : List ℕ) → slice_get (header_names headers.now) i ≡ Some name → result ≡ with_header name (values_at i headers.now) behind }
+    ensures { result ≡ with_header name.now (values_at i headers.now) behind }
 {
-    let name = headers.name(i);
-    Found {
-        no_token: !is_token(name) || behind.no_token,
-        status: name == b"status".as_slice() || behind.status,
-        upper: has_upper(name) || behind.upper,
-        control: has_control(headers, i) || behind.control,
-        kind: is_word(b"content-type", name) || behind.kind,
-        length: if is_word(b"content-length", name) {
-            statement(headers, i)
-        } else {
-            behind.length
-        },
+    let mut found = behind;
+    found.control = has_control(headers, i) | behind.control;
+    if is_word(b"content-type", name) {
+        found.kind = true;
+        return found;
     }
+    if is_word(b"content-length", name) {
+        found.length = statement(headers, i);
+        return found;
+    }
+    found.no_token = !is_token(name) | behind.no_token;
+    found.status = is_word(name, b"status") | behind.status;
+    found.upper = has_upper(name) | behind.upper;
+    found
 }
 
 fn is_word(word: &[u8], name: &[u8]) -> bool

@@ -1,11 +1,11 @@
 -- What the words of a map of kept names and values say of the headers that it stands for.
-use Rattle.std.proofs.Common.{◌≡◌, ℕ, Bool, true, false, cond, not, nat_lt, suc, ◌+◌, List, [], ◌∷◌, ◌++◌, length, map, position, Option, Some, None, option_map, slice_get, refl, ap, sym, ◌∙◌, bytes_eq}
+use Rattle.std.proofs.Common.{◌≡◌, ℕ, Bool, true, false, cond, not, suc, ◌+◌, List, [], ◌∷◌, ◌++◌, length, position, Some, None, option_map, slice_get, refl, ap, sym, ◌∙◌, bytes_eq}
 use Rattle.std.proofs.lemmas.Option.{slice_get-map}
 use Rattle.std.specs.Cow.{cow_slice_items}
 use Rattle.std.specs.List.{AllByRecursion, IsDistinct, prefix_len}
 use Rattle.std.specs.Map.{keys_of, lookup, set_value}
 use Rattle.indexmap.specs.IndexMap.{insert_entry}
-use Rattle.rack_types.specs.Headers.{HeaderList, header_names, header_values, header_place, values_at, set_header, add_header, AreDistinctNames}
+use Rattle.rack_types.specs.Headers.{HeaderList, header_names, header_values, header_place, set_header, add_header, AreDistinctNames}
 use Rattle.rack_types.specs.HeaderStore.{Text, kept_values, headers_of}
 use Rattle.rack_types.specs.declared.headers.Values.{Values}
 

@@ -6,8 +6,6 @@ use Rattle.rack_types.specs.declared.answer.Answer.TheVariants.{Reply, Raised, T
 use Rattle.rack_types.specs.declared.body.Kind.TheVariants.{Enumerable}
 use Rattle.rack_types.specs.declared.rules.EnvRule.{EnvRule}
 use Rattle.rack_types.specs.declared.rules.Rule.{Rule}
-use Rattle.rack_types.specs.declared.rules.BodyRule.{BodyRule}
-use Rattle.rack_types.specs.declared.rules.Set.{Set}
 use Rattle.rack_types.specs.declared.rules.Set.TheVariants.{Server, Full}
 use Rattle.rack_types.specs.AnswerRules.{broken_rule, broken_head_rule, broken_taken_rule, rule}
 use Rattle.rack_types.specs.Body.{Content}
@@ -105,6 +103,26 @@ hijacks_and_head : (broken_head_rule Server good 101 [] None true ≡ None) × (
     × (broken_head_rule Full of_head 200 [] (Some 0) false ≡ None) × (broken_head_rule Full of_head 200 [] None false ≡ None)
 unfolding broken_head_rule broken_taken_rule is_token_byte
 hijacks_and_head = (refl, refl, refl, refl, refl, refl, refl, refl, refl, refl)
+
+-- without two names, of which the lesser rule is named
+abbrev without_both : List ℕ → List ℕ → Option EnvRule
+without_both name other = broken_env_rule (remove_pair name (remove_pair other good))
+
+pairs_of_environments : (without_both (codes "REQUEST_METHOD") (codes "SERVER_NAME") ≡ E 1) × (without_both (codes "SERVER_NAME") (codes "QUERY_STRING") ≡ E 2) × (without_both (codes "QUERY_STRING") (codes "SERVER_PROTOCOL") ≡ E 3)
+    × (without_both (codes "SERVER_PROTOCOL") (codes "rack.url_scheme") ≡ E 4) × (without_both (codes "rack.url_scheme") (codes "rack.errors") ≡ E 5) × (without_both (codes "rack.errors") (codes "PATH_INFO") ≡ E 6)
+    × (broken_env_rule (set_pair (codes "SCRIPT_NAME") (codes "/") (set_pair (codes "PATH_INFO") (codes "p") good)) ≡ E 7)
+    × (broken_env_rule (set_pair (codes "PATH_INFO") (codes "p") (set_pair (codes "HTTP_CONTENT_TYPE") [] good)) ≡ E 8)
+    × (broken_env_rule (set_pair (codes "HTTP_CONTENT_TYPE") [] (set_pair (codes "CONTENT_LENGTH") [] good)) ≡ E 9)
+unfolding broken_env_rule is_token_byte
+pairs_of_environments = (refl, refl, refl, refl, refl, refl, refl, refl, refl)
+
+pairs_of_replies : (at 99 (header (codes "x y") []) None ≡ L 1) × (at 200 (header (codes "X y") []) None ≡ L 2) × (at 200 ((codes "status", []) ∷ (codes "x y", []) ∷ []) None ≡ L 2)
+    × (at 200 ((codes "X", []) ∷ (codes "status", []) ∷ []) None ≡ L 3) × (at 200 (header (codes "status") (10 ∷ [])) None ≡ L 3) × (at 200 (header (codes "X") (10 ∷ [])) None ≡ L 4)
+    × (at 204 (header (codes "content-type") (10 ∷ [])) None ≡ L 5) × (at 204 ((codes "content-length", []) ∷ (codes "content-type", []) ∷ []) None ≡ L 6) × (at 204 ((codes "content-length", []) ∷ []) None ≡ L 7)
+    × (broken_head_rule Server no_hijack 200 (header (codes "content-length") (codes "x")) None true ≡ L 8) × (broken_head_rule Server no_hijack 200 (header (codes "content-length") (codes "5")) (Some 4) true ≡ L 9)
+    × (broken_head_rule Full (set_pair (codes "rack.hijack?") [] of_head) 200 [] (Some 4) true ≡ L 9)
+unfolding broken_head_rule is_token_byte
+pairs_of_replies = (refl, refl, refl, refl, refl, refl, refl, refl, refl, refl, refl, refl)
 
 -- an answer whose body has five bytes
 abbrev five : ℕ → HeaderList → Answer Content ℕ

@@ -1,4 +1,4 @@
-use Rattle.std.proofs.Common.{arith, ◌≡◌, true, false, ◌||◌, suc, ◌-◌, drop, ap, sym, ◌∙◌}
+use Rattle.std.proofs.Common.{arith, ◌≡◌, ◌||◌, suc, ◌-◌, drop, ap, sym, ◌∙◌}
 use Rattle.std.specs.List.{list_any}
 use Rattle.rack_types.specs.AnswerRules.{is_control}
 use Rattle.rack_types.specs.Headers.{values_at}

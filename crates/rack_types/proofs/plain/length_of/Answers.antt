@@ -1,7 +1,7 @@
-use Rattle.std.proofs.Common.{arith, length, drop, ◌≡◌, ◌≤◌, refl, ap, sym, ◌∙◌, [], get_or, ◌+◌}
+use Rattle.std.proofs.Common.{arith, length, drop, ◌≡◌, ◌≤◌, ap, []}
 use Rattle.std.specs.List.{concat}
 use Rattle.std.proofs.lemmas.List.{drop_all}
-use Rattle.rack_types.proofs.PlainLemmas.{sum_fits, sum_passes, length_rest}
+use Rattle.rack_types.proofs.PlainLemmas.{sum_fits}
 use Rattle.rack_types.proofs.plain.length_of.Goals as goal
 
 pub returns : goal.returns

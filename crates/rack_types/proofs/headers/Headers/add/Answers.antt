@@ -1,6 +1,5 @@
 use Rattle.std.proofs.Common.{◌≡◌, refl, ap, ◌∙◌, sym, None, ◌∷◌, [], ◌++◌}
 use Rattle.std.proofs.lemmas.Result.{err_from_is_err_and}
-use Rattle.std.specs.Cow.{cow_slice_items}
 use Rattle.rack_types.specs.Headers.{header_values}
 use Rattle.rack_types.specs.HeaderStore.{headers_of, kept_values}
 use Rattle.rack_types.proofs.HeaderLemmas.{header_values-lookup, add_header-set_value, add_header-absent, same_values-set_value, AreDistinctNames-from_keys}
