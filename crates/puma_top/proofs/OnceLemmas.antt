@@ -5,8 +5,7 @@ use Rattle.std.proofs.lemmas.List.{append_assoc, append-nil, take-append-drop, t
 use Rattle.rack_types.specs.declared.fault.Fault.{Fault}
 use Rattle.rack_types.specs.declared.fault.Fault.TheVariants.{F}
 use Rattle.rack_types.specs.Env.{Environment}
-use Rattle.rack_types.specs.Request.{Parts, with_body}
-use Rattle.rack_types.specs.Sound.{IsSound}
+use Rattle.rack_types.specs.Request.{Parts}
 use Rattle.rack_outside.specs.Told.{Appends, Rose, appended}
 use Rattle.rack_outside.specs.Source.{Gives, IsWhole}
 use Rattle.rack_outside.specs.declared.source.SourceRead.TheVariants as read
@@ -95,10 +94,6 @@ if_some_at {A} P o x h is = subst (λ (s : Option A). IfSome s P) is h
 
 pub some_and_at : {A : Type 0} (P : A → Type 0) (o : Option A) (x : A) → IsSomeAnd o P → o ≡ Some x → P x
 some_and_at {A} P o x h is = subst (λ (s : Option A). IsSomeAnd s P) is h
-
--- the rules of an environment rest on nothing of the body
-pub emptied_sound : (r : Parts) → IsSound r → IsSound (with_body [] r)
-emptied_sound r sound = record { method = sound.method; path = sound.path; length = sound.length }
 
 -- the source has ended while nothing stood
 pub ended : (intake : Intake) (count : ℕ) (old mid new input_mid input_new : Option (List ℕ)) → Reading intake count old mid

@@ -15,4 +15,6 @@ pub use quiet::run_quiet;
 pub use status::{FileWhy, Status};
 
 #[cfg(test)]
+mod crossing;
+#[cfg(test)]
 mod tests;

@@ -1,12 +1,10 @@
-use Rattle.std.proofs.Common.{◌≡◌, Bor, [], ap, sym, ◌∙◌, subst}
+use Rattle.std.proofs.Common.{◌≡◌, Bor, [], ap, sym, ◌∙◌}
 use Rattle.rack_types.specs.Input.{Reading}
 use Rattle.rack_types.specs.Request.{Parts, with_body}
-use Rattle.rack_types.specs.Sound.{IsSound}
 use Rattle.rack_env.specs.Environment.{env_pairs}
 use Rattle.message_framing.specs.Request.{IsRequest}
 use Rattle.puma_top.specs.Served.{is_served, once_peer, once_local}
-use Rattle.message_framing.proofs.CallerLemmas.{request_sound}
-use Rattle.puma_top.proofs.OnceLemmas.{if_some_at, some_and_at, same_request, emptied_sound}
+use Rattle.puma_top.proofs.OnceLemmas.{if_some_at, some_and_at, same_request}
 use Rattle.puma_top.proofs.once.admit.Goals as goal
 
 pub unwrap-requires : goal.unwrap-requires
@@ -29,6 +27,6 @@ returns-in-Ok c = λ b r fed is.
             ∙ ap (λ (q : Parts). env_pairs (with_body c.take_input-input.result.bytes q) once_peer once_local) emptied
             ∙ ap (λ (i : Reading). env_pairs (with_body i.bytes r) once_peer once_local) taken.0;
         input = c.in-Ok.ensures.input ∙ taken.0;
-        rules = c.in-Ok.ensures.rules (subst IsSound (sym emptied) (emptied_sound r (request_sound b r is)));
+        rules = c.in-Ok.ensures.rules;
       },
     )

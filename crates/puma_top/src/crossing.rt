@@ -1,0 +1,273 @@
+// What crosses the crates below, over objects in memory: requests one behind the other, the environment of a
+// request, and a long body that is framed and read again.
+use circular_buffer::HeapCircularBuffer;
+use message_framing::{Feed, Intake, what_stands};
+use rack_env::env_of;
+use rack_types::{
+    Answer, Bytes, Env, Fault, Headers, Input, Kind, Limits, Local, NoMemory, Peer, Plain, Version,
+};
+use reply_framing::{Ask, Filled, Framer};
+use std::alloc::Global;
+use std::convert::Infallible;
+use std::test::Fail;
+
+// Feeds an intake the text in pieces of this size, and tells of each request its method, whether it came in
+// chunks, its body, and how many bytes the piece gave it that it ended in; behind them whether a further one has
+// begun, or which refusal stands.
+fn taken(alloc: Global, text: &[u8], size: usize) -> Result<Vec<u8>, NoMemory> {
+    let mut intake = Intake::new(alloc, Limits::stock())?;
+    let mut told = Vec::new(alloc);
+    let mut rest = text;
+    // Each answer here takes a byte at least, so there are no more pieces than bytes.
+    for _ in 0..text.len() {
+        let piece = &rest[..rest.len().min(size)];
+        let taken = match intake.feed(piece)? {
+            Feed::More => piece.len(),
+            Feed::Whole(n) => n,
+            Feed::Refused(fault) => {
+                told.extend_from_slice(format!(in alloc; "{fault:?}")?.as_bytes())?;
+                return Ok(told);
+            }
+        };
+        if let Some(request) = intake.request() {
+            told.extend_from_slice(request.method())?;
+            let chunked = request.chunked();
+            told.extend_from_slice(if chunked { b" chunked " } else { b" " })?;
+            told.extend_from_slice(intake.take_input().all())?;
+            told.extend_from_slice(format!(in alloc; " {taken}\n")?.as_bytes())?;
+            intake.advance();
+        }
+        rest = rest.get(taken..).unwrap_or(b"");
+    }
+    told.extend_from_slice(if intake.begun() {
+        b"begun"
+    } else {
+        b"not begun"
+    })?;
+    Ok(told)
+}
+
+#[test]
+fn takes_requests_one_behind_the_other(rt: HostRuntime) -> Result<(), Fail> {
+    let text: &[u8] =
+        b"\r\nPOST / HTTP/1.1\r\nHost: a\r\nTransfer-Encoding: chunked\r\n\r\n5\r\nhello\r\n0\r\nT: 1\r\n\r\nPUT / HTTP/1.1\r\nHost: a\r\nContent-Length: 2\r\n\r\nokGET / HTTP/1.1\r\nHost: a\r\n\r\n";
+    for (size, said) in [
+        (1, "POST chunked hello 1\nPUT ok 1\nGET  1\nnot begun"),
+        (2, "POST chunked hello 1\nPUT ok 2\nGET  1\nnot begun"),
+        (7, "POST chunked hello 2\nPUT ok 6\nGET  6\nnot begun"),
+        (1000, "POST chunked hello 79\nPUT ok 48\nGET  27\nnot begun"),
+    ] {
+        let told = taken(rt.alloc(), text, size)?;
+        assert_eq!(rt; told.as_slice(), said.as_bytes(), "{size}");
+    }
+    for (text, begun) in [
+        (b"\r\n\n".as_slice(), b"not begun".as_slice()),
+        (b"\r\n\n\r".as_slice(), b"begun".as_slice()),
+        (b"\r\n\n\r\n".as_slice(), b"not begun".as_slice()),
+        (b"\r\n\nG".as_slice(), b"begun".as_slice()),
+    ] {
+        assert_eq!(rt; taken(rt.alloc(), text, 1)?.as_slice(), begun);
+    }
+    Ok(())
+}
+
+#[test]
+fn tells_what_stands(rt: HostRuntime) -> Result<(), Fail> {
+    for (text, stands) in [
+        (b"GET / HTTP/1.1\r\nHost: a\r\n".as_slice(), Feed::More),
+        (b"GET / HTTP/1.1\r\nHost: a\r\n\r\n".as_slice(), Feed::Whole(27)),
+        (
+            b"GET / HTTP/1.1\r\n\r\n".as_slice(),
+            Feed::Refused(Fault::F(6)),
+        ),
+    ] {
+        let intake = Intake::new(rt.alloc(), Limits::stock())?;
+        assert_eq!(rt; what_stands(intake, text)?, stands);
+    }
+    Ok(())
+}
+
+// The pairs of the environment of the request that this text is, each as a line, and its input.
+fn lines_of(alloc: Global, text: &[u8], https: bool) -> Result<Vec<u8>, NoMemory> {
+    let mut lines = Vec::new(alloc);
+    let mut intake = Intake::new(alloc, Limits::stock())?;
+    let Feed::Whole(_) = intake.feed(text)? else {
+        return Ok(lines);
+    };
+    let input = intake.take_input();
+    let (Some(request), Some(peer), Some(name)) = (
+        intake.request(),
+        Peer::new(b"127.0.0.1"),
+        Peer::new(b"localhost"),
+    ) else {
+        return Ok(lines);
+    };
+    let local = Local {
+        name,
+        port: 9292,
+        https,
+        hijack: !https,
+    };
+    let mut env = env_of(alloc, request, input, &peer, &local)?;
+    for i in 0..env.len() {
+        lines.extend_from_slice(env.name(i))?;
+        lines.extend_from_slice(b"=")?;
+        lines.extend_from_slice(env.value(i))?;
+        lines.extend_from_slice(b"\n")?;
+    }
+    lines.extend_from_slice(env.input().rest())?;
+    Ok(lines)
+}
+
+#[test]
+fn lists_the_pairs(rt: HostRuntime) -> Result<(), Fail> {
+    for (text, https, want) in [
+        (
+            b"GET /p?q=1 HTTP/1.1\r\nHost: h:81\r\nX-A: 1\r\nx-a: 2\r\nX_B: 3\r\n\r\n".as_slice(),
+            false,
+            PLAIN,
+        ),
+        (
+            b"POST http://[::1]:080/%41 HTTP/1.1\r\nAccept: a\r\nhost: h\r\ncontent-TYPE: text/plain\r\ntransfer-encoding: chunked\r\naccept: b\r\n\r\n7\r\ntwelve \r\n5\r\nbytes\r\n0\r\n\r\n".as_slice(),
+            true,
+            ABSOLUTE,
+        ),
+        (
+            b"POST http://h:/* HTTP/1.0\r\nContent-Length: 0002\r\nX:\r\n\r\nab".as_slice(),
+            true,
+            OLD,
+        ),
+        (b"GET / HTTP/1.1\r\nHost:\r\n\r\n".as_slice(), false, LOCAL),
+    ] {
+        let lines = lines_of(rt.alloc(), text, https)?;
+        assert_eq!(rt; lines.as_slice(), want.as_bytes());
+    }
+    Ok(())
+}
+
+const PIECE: usize = 65_536;
+// `10000`, CR LF, the piece, CR LF
+const FRAMED: usize = PIECE + 9;
+
+const HEAD: &[u8] = b"HTTP/1.1 200 OK\r\ntransfer-encoding: chunked\r\n\r\n";
+
+fn long_answer(alloc: Global) -> Result<Answer<Plain, Infallible>, NoMemory> {
+    let mut pieces = Vec::with_capacity(alloc, 1_024)?;
+    for _ in 0..1_024 {
+        pieces.push(Bytes::new(vec![in alloc; b'x'; PIECE]?))?;
+    }
+    Ok(Answer::Reply {
+        status: 200,
+        headers: Headers::new(alloc),
+        body: Plain::new(pieces, false, false, Kind::Streaming),
+        part: None,
+    })
+}
+
+#[test]
+fn long_body_is_framed_and_read_again(rt: HostRuntime) -> Result<(), Fail> {
+    let alloc = rt.alloc();
+    let ask = Ask {
+        head: false,
+        version: Version::Http11,
+        persists: true,
+    };
+    let env = Env::new(alloc, Input::new(Bytes::new(Vec::new(alloc))));
+    let mut framer = Framer::start(alloc, ask, &env, long_answer(alloc)?, false)?;
+    let mut ring = HeapCircularBuffer::with_capacity(alloc, PIECE)?;
+    let mut first = Vec::new(alloc);
+    let mut sent: u64 = 0;
+    let mut told = Filled::Full;
+    for _ in 0..2_000 {
+        told = framer.fill(&mut ring)?;
+        let (front, back) = ring.as_slices();
+        if first.len() < 17 * FRAMED {
+            first.extend_from_slice(front)?;
+            first.extend_from_slice(back)?;
+        }
+        sent = sent.wrapping_add(ring.len() as u64);
+        ring.clear();
+        if told != Filled::Full {
+            break;
+        }
+    }
+    framer.finish();
+    assert_eq!(rt; told, Filled::Done);
+    assert_eq!(rt; sent, 47 + 1_024 * 65_545 + 5);
+    let (head, rest) = first.as_slice().split_at(HEAD.len());
+    let (chunks, _) = rest.split_at(16 * FRAMED);
+    assert_eq!(rt; head, HEAD);
+    for chunk in chunks.chunks_exact(FRAMED) {
+        assert!(rt; chunk.starts_with(b"10000\r\n") && chunk.ends_with(b"x\r\n"));
+    }
+    let mut intake = Intake::new(alloc, Limits::stock())?;
+    let post: &[u8] = b"POST / HTTP/1.1\r\nHost: a\r\nTransfer-Encoding: chunked\r\n\r\n";
+    assert_eq!(rt; intake.feed(post)?, Feed::More);
+    assert_eq!(rt; intake.feed(chunks)?, Feed::More);
+    assert_eq!(rt; intake.feed(b"0\r\n\r\n")?, Feed::Whole(5));
+    let body = intake.request().map(|request| request.body().len());
+    assert_eq!(rt; body, Some(1_048_576));
+    Ok(())
+}
+
+const PLAIN: &str = "REQUEST_METHOD=GET
+SCRIPT_NAME=
+PATH_INFO=/p
+QUERY_STRING=q=1
+SERVER_NAME=h
+SERVER_PORT=81
+SERVER_PROTOCOL=HTTP/1.1
+REMOTE_ADDR=127.0.0.1
+rack.url_scheme=http
+rack.errors=discard
+rack.hijack?=true
+HTTP_HOST=h:81
+HTTP_X_A=1, 2
+";
+
+const ABSOLUTE: &str = "REQUEST_METHOD=POST
+SCRIPT_NAME=
+PATH_INFO=/%41
+QUERY_STRING=
+SERVER_NAME=[::1]
+SERVER_PORT=80
+SERVER_PROTOCOL=HTTP/1.1
+REMOTE_ADDR=127.0.0.1
+rack.url_scheme=https
+rack.errors=discard
+rack.hijack?=false
+CONTENT_TYPE=text/plain
+CONTENT_LENGTH=12
+HTTP_ACCEPT=a, b
+HTTP_HOST=[::1]:080
+twelve bytes";
+
+const OLD: &str = "REQUEST_METHOD=POST
+SCRIPT_NAME=
+PATH_INFO=/*
+QUERY_STRING=
+SERVER_NAME=h
+SERVER_PORT=443
+SERVER_PROTOCOL=HTTP/1.0
+REMOTE_ADDR=127.0.0.1
+rack.url_scheme=https
+rack.errors=discard
+rack.hijack?=false
+CONTENT_LENGTH=0002
+HTTP_X=
+HTTP_HOST=h:
+ab";
+
+const LOCAL: &str = "REQUEST_METHOD=GET
+SCRIPT_NAME=
+PATH_INFO=/
+QUERY_STRING=
+SERVER_NAME=localhost
+SERVER_PORT=9292
+SERVER_PROTOCOL=HTTP/1.1
+REMOTE_ADDR=127.0.0.1
+rack.url_scheme=http
+rack.errors=discard
+rack.hijack?=true
+HTTP_HOST=
+";
