@@ -75,7 +75,10 @@ fn takes_requests_one_behind_the_other(rt: HostRuntime) -> Result<(), Fail> {
 fn tells_what_stands(rt: HostRuntime) -> Result<(), Fail> {
     for (text, stands) in [
         (b"GET / HTTP/1.1\r\nHost: a\r\n".as_slice(), Feed::More),
-        (b"GET / HTTP/1.1\r\nHost: a\r\n\r\n".as_slice(), Feed::Whole(27)),
+        (
+            b"GET / HTTP/1.1\r\nHost: a\r\n\r\n".as_slice(),
+            Feed::Whole(27),
+        ),
         (
             b"GET / HTTP/1.1\r\n\r\n".as_slice(),
             Feed::Refused(Fault::F(6)),
