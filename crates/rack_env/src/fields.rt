@@ -1,5 +1,5 @@
 // The pairs that come of a request's fields.
-ghost use Rattle.std.specs.Prelude.{◌≡◌, OnOk, IfOk, map, option_copied};
+ghost use Rattle.std.specs.Prelude.{◌≡◌, OnOk, map, option_copied};
 ghost use Rattle.std.specs.List.{fold, list_any};
 ghost use Rattle.rack_types.specs.Env.{with_pairs};
 ghost use Rattle.rack_env.specs.Fields as spec;

@@ -241,4 +241,21 @@ mod tests {
         assert_eq!(rt; env.name(0), "HTTP_ACCEPT".as_bytes());
         Ok(())
     }
+
+    #[test]
+    fn fills_a_kept_one_anew(rt: HostRuntime) -> Result<(), NoMemory> {
+        let mut env = two_pairs(rt.alloc())?;
+        env.clear(Input::new(Bytes::new(Vec::new(rt.alloc()))));
+        assert_eq!(rt; env.len(), 0);
+        assert!(rt; env.get(b"REQUEST_METHOD").is_none());
+        env.set_static(b"HTTP_ACCEPT", b"*/*")?;
+        env.add(b"HTTP_UPGRADE_INSECURE_REQUESTS", b", ", b"1")?;
+        env.add_static(b"HTTP_ACCEPT", b", ", b"text/html")?;
+        let room = env.take_room();
+        env.keep_room(room);
+        assert_eq!(rt; env.len(), 2);
+        assert_eq!(rt; env.value(0), "*/*, text/html".as_bytes());
+        assert_eq!(rt; env.name(1), "HTTP_UPGRADE_INSECURE_REQUESTS".as_bytes());
+        Ok(())
+    }
 }

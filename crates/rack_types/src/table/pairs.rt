@@ -1,10 +1,9 @@
 // What callers do with the pairs of a table.
-ghost use Rattle.std.specs.Prelude.{◌≡◌, ℕ, ◌^◌, ◌<◌, ◌≤◌, ◌++◌, List, [], None, length, is_some, slice_get, Some, IfNone, IfOk, IfSome, IsTrue, OnErr, OnOk};
+ghost use Rattle.std.specs.Prelude.{◌≡◌, ◌^◌, ◌<◌, ◌++◌, [], None, length, is_some, slice_get, Some, IfOk, OnErr, OnOk};
 ghost use Rattle.std.specs.Option.{option_copied};
-ghost use Rattle.indexmap.specs.IndexMap.{index_map_len};
 ghost use Rattle.rack_types.specs.Env.{add_pair, extend_pair, get_pair, remove_pair, set_pair, AreDistinct, HasName};
 ghost use Rattle.rack_types.specs.Name.{given_bytes};
-ghost use Rattle.rack_types.specs.Table.{counted, standing, IsFirstAt};
+ghost use Rattle.rack_types.specs.Table.{standing};
 
 use super::Table;
 use crate::name::{Given, Name};

@@ -1,8 +1,7 @@
 // Where a name stands in a table, and what is written there.
-ghost use Rattle.std.specs.Prelude.{◌≡◌, ℕ, ◌^◌, ◌<◌, ◌≤◌, ◌++◌, List, [], None, bytes_eq, length, is_some, slice_get, Some, IfNone, IfOk, IfSome, IsTrue, OnErr, OnOk};
-ghost use Rattle.std.specs.Option.{option_copied};
+ghost use Rattle.std.specs.Prelude.{◌≡◌, ℕ, ◌<◌, ◌≤◌, List, None, bytes_eq, slice_get, Some, IfNone, IfSome, OnErr, OnOk};
 ghost use Rattle.indexmap.specs.IndexMap.{get_by, index_map_len, IsUnique};
-ghost use Rattle.rack_types.specs.Env.{add_pair, extend_pair, get_pair, remove_pair, set_pair, AreDistinct, HasName};
+ghost use Rattle.rack_types.specs.Env.{add_pair, get_pair, set_pair};
 ghost use Rattle.rack_types.specs.Name.{given_bytes};
 ghost use Rattle.rack_types.specs.Table.{counted, standing, IsFirstAt};
 
