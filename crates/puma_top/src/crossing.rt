@@ -2,7 +2,7 @@
 // request, and a long body that is framed and read again.
 use circular_buffer::HeapCircularBuffer;
 use message_framing::{Feed, Intake, what_stands};
-use rack_env::env_of;
+use rack_env::refill;
 use rack_types::{
     Answer, Bytes, Env, Fault, Headers, Input, Kind, Limits, Local, NoMemory, Peer, Plain, Version,
 };
@@ -90,8 +90,9 @@ fn tells_what_stands(rt: HostRuntime) -> Result<(), Fail> {
     Ok(())
 }
 
-// The pairs of the environment of the request that this text is, each as a line, and its input.
-fn lines_of(alloc: Global, text: &[u8], https: bool) -> Result<Vec<u8>, NoMemory> {
+// The pairs of the environment of the request that this text is, each as a line, and its input. The environment
+// is kept from the request before.
+fn lines_of(alloc: Global, env: &mut Env, text: &[u8], https: bool) -> Result<Vec<u8>, NoMemory> {
     let mut lines = Vec::new(alloc);
     let mut intake = Intake::new(alloc, Limits::stock())?;
     let Feed::Whole(_) = intake.feed(text)? else {
@@ -111,7 +112,7 @@ fn lines_of(alloc: Global, text: &[u8], https: bool) -> Result<Vec<u8>, NoMemory
         https,
         hijack: !https,
     };
-    let mut env = env_of(alloc, request, input, &peer, &local)?;
+    refill(env, request, input, &peer, &local)?;
     for i in 0..env.len() {
         lines.extend_from_slice(env.name(i))?;
         lines.extend_from_slice(b"=")?;
@@ -124,6 +125,7 @@ fn lines_of(alloc: Global, text: &[u8], https: bool) -> Result<Vec<u8>, NoMemory
 
 #[test]
 fn lists_the_pairs(rt: HostRuntime) -> Result<(), Fail> {
+    let mut env = Env::new(rt.alloc(), Input::new(Bytes::new(Vec::new(rt.alloc()))));
     for (text, https, want) in [
         (
             b"GET /p?q=1 HTTP/1.1\r\nHost: h:81\r\nX-A: 1\r\nx-a: 2\r\nX_B: 3\r\n\r\n".as_slice(),
@@ -142,7 +144,7 @@ fn lists_the_pairs(rt: HostRuntime) -> Result<(), Fail> {
         ),
         (b"GET / HTTP/1.1\r\nHost:\r\n\r\n".as_slice(), false, LOCAL),
     ] {
-        let lines = lines_of(rt.alloc(), text, https)?;
+        let lines = lines_of(rt.alloc(), &mut env, text, https)?;
         assert_eq!(rt; lines.as_slice(), want.as_bytes());
     }
     Ok(())
