@@ -1,10 +1,11 @@
 -- What a link in memory is, as plain lists and counts.
-use Rattle.std.specs.Prelude.{ℕ, Bool, false, true, List, [], ◌++◌, codes, Option, None, Some, ⊤}
+use Rattle.std.specs.Prelude.{◌≡◌, ℕ, Bool, false, true, List, [], ◌++◌, codes, Option, None, Some, ⊤}
 use Rattle.rack_outside.specs.declared.link.LinkRead.{LinkRead}
 use Rattle.rack_outside.specs.declared.link.LinkRead.TheVariants as read
 use Rattle.rack_outside.specs.declared.link.LinkWrite.{LinkWrite}
 use Rattle.rack_outside.specs.declared.link.LinkWrite.TheVariants as write
 use Rattle.rack_outside.specs.Link.{Seen}
+use Rattle.rack_outside.specs.Told.{counted}
 
 -- a link that never fails: its tag, the bytes that were read from it and those that it took, whether a read
 -- answered that the peer ended, its counts of waits, reads and writes, the bytes that the peer gave and that were
@@ -59,7 +60,7 @@ wire_seen w = record {
   });
 }
 
--- no failure is set, and none came
+-- one that never fails: no failure is set, and none came
 abbrev pub unfailing : Pipe → Wire
 unfailing p = record {
   pipe = p;
@@ -70,7 +71,7 @@ unfailing p = record {
   failed_writes = 0;
 }
 
--- so does one that never fails
+-- one that never fails tells all that it is too
 abbrev pub pipe_seen : Pipe → Seen
 pipe_seen p = wire_seen (unfailing p)
 
@@ -117,3 +118,18 @@ IsSureWrite (write.Took n) = ⊤
 IsSureWrite write.NotYet = ⊤
 IsSureWrite write.Failed = ⊥
 IsSureWrite write.NoMemory = ⊤
+
+-- behind a read of a link in memory the counts of failed reads and of waits are one more exactly where the answer
+-- says so, and else the same
+abbrev pub CountsRead : LinkRead → Seen → Seen → Type 0
+CountsRead (read.Bytes n) old new = (new.failed_reads ≡ old.failed_reads) × (new.waits ≡ old.waits)
+CountsRead read.NotYet old new = (new.failed_reads ≡ old.failed_reads) × (new.waits ≡ counted old.waits)
+CountsRead read.End old new = (new.failed_reads ≡ old.failed_reads) × (new.waits ≡ old.waits)
+CountsRead read.Failed old new = (new.failed_reads ≡ counted old.failed_reads) × (new.waits ≡ old.waits)
+
+-- behind a write so are those of failed writes and of waits
+abbrev pub CountsWrite : LinkWrite → Seen → Seen → Type 0
+CountsWrite (write.Took n) old new = (new.failed_writes ≡ old.failed_writes) × (new.waits ≡ old.waits)
+CountsWrite write.NotYet old new = (new.failed_writes ≡ old.failed_writes) × (new.waits ≡ counted old.waits)
+CountsWrite write.Failed old new = (new.failed_writes ≡ counted old.failed_writes) × (new.waits ≡ old.waits)
+CountsWrite write.NoMemory old new = (new.failed_writes ≡ old.failed_writes) × (new.waits ≡ old.waits)

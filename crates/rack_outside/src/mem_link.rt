@@ -1,7 +1,7 @@
 // A link in memory that fails where it is told to.
 ghost use Rattle.std.specs.Prelude.{◌≡◌, ◌<◌, length, true, OnOk, OnErr};
 ghost use Rattle.rack_outside.specs.Link.{Reads, IsOneRead, ReadsAhead, Writes, IsOneWrite, WritesAhead, next_place, is_set as is_named_in};
-ghost use Rattle.rack_outside.specs.Wire.{fresh_wire, wire_seen, with_more, with_end, with_room};
+ghost use Rattle.rack_outside.specs.Wire.{fresh_wire, wire_seen, with_more, with_end, with_room, CountsRead, CountsWrite};
 
 use crate::{Link, LinkRead, LinkWrite, SureLink};
 use rack_types::{Bytes, NoMemory};
@@ -110,7 +110,13 @@ impl Link for MemLink {
 
     /// Fails exactly where a failure is set. Else it gives as many of the unread bytes as fit, the end
     /// where none is unread and the peer ended, and else nothing yet. It takes no memory.
-    fn read(&mut self, room: &mut [u8]) -> LinkRead {
+    fn read(&mut self, room: &mut [u8]) -> LinkRead
+        requires { 0 < length room.old }
+        ensures reads { Reads result room.new (wire_seen self.old) (wire_seen self.new) }
+        ensures keeps { IsOneRead (wire_seen self.old) (wire_seen self.new) }
+        ensures ahead { ReadsAhead result room.new (wire_seen self.old).ahead (next_place (wire_seen self.old)) (wire_seen self.new).ahead }
+        ensures counts { CountsRead result (wire_seen self.old) (wire_seen self.new) }
+    {
         let fails = self.read_fails || is_set(self.fails.get(), self.link.next_place());
         self.read_fails = false;
         if fails {
@@ -124,7 +130,13 @@ impl Link for MemLink {
     /// Fails exactly where a failure is set. Else it takes as many bytes as the room holds, and has to
     /// wait where it holds none. It takes memory for them, and answers `NoMemory` where that is
     /// refused.
-    fn write(&mut self, piece: &[u8]) -> LinkWrite {
+    fn write(&mut self, piece: &[u8]) -> LinkWrite
+        requires { 0 < length piece.now }
+        ensures writes { Writes result piece.now (wire_seen self.old) (wire_seen self.new) }
+        ensures keeps { IsOneWrite (wire_seen self.old) (wire_seen self.new) }
+        ensures ahead { WritesAhead result piece.now (wire_seen self.old).ahead (next_place (wire_seen self.old)) (wire_seen self.new).ahead }
+        ensures counts { CountsWrite result (wire_seen self.old) (wire_seen self.new) }
+    {
         let fails = self.write_fails || is_set(self.fails.get(), self.link.next_place());
         self.write_fails = false;
         if fails {

@@ -2,7 +2,7 @@
 ghost use Rattle.std.specs.Prelude.{◌≡◌, ◌<◌, ◌+◌, length, OnOk, OnErr};
 ghost use Rattle.rack_outside.specs.Link.{Reads, IsOneRead, ReadsAhead, Writes, IsOneWrite, WritesAhead, next_place, room_for};
 ghost use Rattle.rack_outside.specs.Told.{counted};
-ghost use Rattle.rack_outside.specs.Wire.{fresh_pipe, pipe_seen, with_more, with_end, with_room, IsSureRead, IsSureWrite};
+ghost use Rattle.rack_outside.specs.Wire.{fresh_pipe, pipe_seen, with_more, with_end, with_room, IsSureRead, IsSureWrite, CountsRead, CountsWrite};
 
 use crate::{Link, LinkRead, LinkWrite};
 use rack_types::NoMemory;
@@ -138,6 +138,7 @@ impl Link for SureLink {
         ensures reads { Reads result room.new (pipe_seen self.old) (pipe_seen self.new) }
         ensures keeps { IsOneRead (pipe_seen self.old) (pipe_seen self.new) }
         ensures ahead { ReadsAhead result room.new (pipe_seen self.old).ahead (next_place (pipe_seen self.old)) (pipe_seen self.new).ahead }
+        ensures counts { CountsRead result (pipe_seen self.old) (pipe_seen self.new) }
         ensures sure { IsSureRead result }
     {
         self.reads = self.reads.saturating_add(1);
@@ -164,6 +165,7 @@ impl Link for SureLink {
         ensures writes { Writes result piece.now (pipe_seen self.old) (pipe_seen self.new) }
         ensures keeps { IsOneWrite (pipe_seen self.old) (pipe_seen self.new) }
         ensures ahead { WritesAhead result piece.now (pipe_seen self.old).ahead (next_place (pipe_seen self.old)) (pipe_seen self.new).ahead }
+        ensures counts { CountsWrite result (pipe_seen self.old) (pipe_seen self.new) }
         ensures sure { IsSureWrite result }
     {
         self.writes = self.writes.saturating_add(1);

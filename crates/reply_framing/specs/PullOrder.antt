@@ -1,5 +1,5 @@
--- The order in which a body is asked: its next piece is taken only when the bytes of all pieces before it were
--- appended. This project's own.
+-- The order in which a body is asked, as it is seen behind each `fill`: of the pieces that were taken the bytes of
+-- all but the last were appended. This project's own.
 use Rattle.std.specs.Prelude.{◌≡◌, ℕ, Bool, List, [], ◌∷◌, ◌++◌, length, Option, ⊤}
 use Rattle.std.specs.List.{concat}
 use Rattle.rack_types.specs.BodyRules.{left_behind}
@@ -22,7 +22,7 @@ IsLate [] rest = ⊤
 IsLate (piece ∷ []) rest = IsRestOf rest.bytes (wire rest.form piece ++ later rest)
 IsLate (piece ∷ next ∷ pieces) rest = IsLate (next ∷ pieces) rest
 
--- some pieces were taken, each only when all bytes before it were appended
+-- some pieces were taken, and the bytes of all but the last of them were appended
 pub record Pulls (old new : Rest) : Type 0 where
   pub taken : List (List ℕ)
   pub given : old.waiting ≡ taken ++ new.waiting

@@ -18,9 +18,9 @@ use std::marker::Model;
 
 /// The reply to an answer, of which some was appended to a ring and the rest is still to come.
 ///
-/// It holds the head, the body, and what is left of one framed piece; it takes the body's next piece
-/// only when the bytes of all pieces before it were appended. So it takes memory at its start alone,
-/// beside what the body takes. A framer has no `Drop` where its body has none: it is spent by `finish`.
+/// It holds the head, the body, and what is left of one framed piece: behind each `fill` the bytes of
+/// all pieces that it took but the last were appended. So it takes memory at its start alone, beside
+/// what the body takes. A framer has no `Drop` where its body has none: it is spent by `finish`.
 #[derive(Drop)]
 pub struct Framer<B: Body, H> {
     pub(crate) pull: Pull<B>,
@@ -45,8 +45,8 @@ impl<B: Body, H: Drop> Framer<B, H> {
     /// connection takes no further request, whatever the answer is.
     ///
     /// An answer that breaks a rule of the server's set is put aside, and its body closed: the reply is
-    /// then the 500 that names the least such rule (docs/DEFINITIONS.md). No body is asked here. It
-    /// takes memory for the head. Where that is refused, the body was closed.
+    /// then the 500 that names the least such rule (docs/DEFINITIONS.md). The body that it holds was
+    /// asked nothing. It takes memory for the head. Where that is refused, the body was closed.
     pub fn start(
         alloc: Global,
         ask: Ask,
@@ -91,8 +91,8 @@ impl<B: Body, H> Framer<B, H> {
     ///
     /// `Full` comes exactly where the ring is full and bytes remain, `Done` exactly where the whole
     /// reply was appended, and `Broke` exactly where the body broke a rule and all before the break was
-    /// appended. It takes no memory: want of memory comes only where the body's `next` answered it, and
-    /// the framer can go on behind it.
+    /// appended. It takes no memory: want of memory comes only of a body that may want it, and the
+    /// framer can go on behind it.
     pub fn fill(&mut self, ring: &mut HeapCircularBuffer<u8>) -> Result<Filled, NoMemory>
         ensures fills { Fills self.old.rest result self.new.rest ring.old ring.new }
         ensures after { self.new.after ≡ after_then result self.old.after }
