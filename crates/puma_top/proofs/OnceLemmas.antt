@@ -240,7 +240,7 @@ reply_not_empty stack.echo r none = cc
 pub replies_asked : (endpoint : Endpoint) (bytes text : List ℕ) (env : Environment) → Stands (came.Asked env) bytes
     → ((r : Parts) → env.input.bytes ≡ r.body → text ≡ endpoint_reply endpoint r) → Replies endpoint bytes text
 replies_asked endpoint bytes text env stands replies =
-    let is : text ≡ endpoint_reply endpoint stands.1 = replies stands.1 (ap (λ i. i.bytes) stands.4.input) in
+    let is : text ≡ endpoint_reply endpoint stands.1 = replies stands.1 (ap (λ (e : Environment). e.input.bytes) stands.4.whole) in
     record {
       first = request stands.0 stands.1 stands.2
           (is ∙ ap (λ (b : Bool). if b then endpoint_reply endpoint stands.1 else fault_reply (F 0)) (sym stands.3));

@@ -1,10 +1,9 @@
 -- The steps in which one connection is served. This serves inner contracts alone.
 use Rattle.std.specs.Prelude.{◌≡◌, ℕ, ◌⊎◌, true, false, List, Option, None, Result, Ok, Err, ⊤}
 use Rattle.rack_types.specs.Env.{Environment}
-use Rattle.rack_types.specs.Input.{unread}
 use Rattle.rack_types.specs.Request.{Parts}
 use Rattle.rack_types.specs.Rules.{broken_env_rule}
-use Rattle.rack_env.specs.Environment.{env_pairs}
+use Rattle.rack_env.specs.Environment.{environment}
 use Rattle.rack_outside.specs.Told.{Rose, Appends}
 use Rattle.rack_outside.specs.Source.{IsWhole}
 use Rattle.message_framing.specs.Request.{Begins, Refusal, Wanting}
@@ -16,10 +15,9 @@ use Rattle.puma_top.specs.declared.status.Status.TheVariants.{Done, NoMemory, Us
 use Rattle.puma_top.specs.declared.once.Came.{Came}
 use Rattle.puma_top.specs.declared.once.Came.TheVariants.{Asked, Unbuilt, Refused, Nothing}
 
--- the environment of this request, with its body as input; it breaks no rule
+-- the environment of this request, whole; it breaks no rule
 pub record IsEnvironmentOf (env : Environment) (request : Parts) : Type 0 where
-  pub pairs : env.pairs ≡ env_pairs request once_peer once_local
-  pub input : env.input ≡ unread request.body
+  pub whole : env ≡ environment request once_peer once_local
   pub rules : broken_env_rule env.pairs ≡ None
 
 -- what stands in these bytes: of a request that is served, its environment

@@ -2,7 +2,8 @@
 ghost use Rattle.std.specs.Prelude.{◌≡◌, None, IfOk};
 ghost use Rattle.rack_types.specs.Rules.{broken_env_rule};
 ghost use Rattle.rack_types.specs.Request.{with_body};
-ghost use Rattle.rack_env.specs.Environment.{env_pairs};
+ghost use Rattle.rack_types.specs.Input.{unread};
+ghost use Rattle.rack_env.specs.Environment.{environment as whole_environment};
 ghost use Rattle.puma_top.specs.Served.{is_served, once_peer, once_local};
 
 use rack_env::env_of;
@@ -22,8 +23,7 @@ pub(crate) fn is_served(request: &Request) -> bool
 
 /// The environment of a request whose body is in this input, on the connection that `once` serves.
 pub(crate) fn environment(alloc: Global, request: &Request, input: Input) -> Result<Env, NoMemory>
-    ensures pairs { IfOk result (λ e. e.pairs ≡ env_pairs (with_body input.bytes request.now) once_peer once_local) }
-    ensures input { IfOk result (λ e. e.input ≡ input) }
+    ensures whole { input ≡ unread input.bytes → IfOk result (λ e. e ≡ whole_environment (with_body input.bytes request.now) once_peer once_local) }
     ensures rules { IfOk result (λ e. broken_env_rule e.pairs ≡ None) }
 {
     let peer = Peer::new(b"127.0.0.1").unwrap();

@@ -1,7 +1,7 @@
 use Rattle.std.proofs.Common.{◌≡◌, Bor, [], ap, sym, ◌∙◌}
-use Rattle.rack_types.specs.Input.{Reading}
+use Rattle.rack_types.specs.Input.{Reading, unread}
 use Rattle.rack_types.specs.Request.{Parts, with_body}
-use Rattle.rack_env.specs.Environment.{env_pairs}
+use Rattle.rack_env.specs.Environment.{environment}
 use Rattle.message_framing.specs.Request.{IsRequest}
 use Rattle.puma_top.specs.Served.{is_served, once_peer, once_local}
 use Rattle.puma_top.proofs.OnceLemmas.{if_some_at, some_and_at, same_request}
@@ -23,10 +23,9 @@ returns-in-Ok c = λ b r fed is.
       ap is_served (same_request b r c.unwrap.result.now is (if_some_at (λ (q : Bor Parts). IsRequest b q.now) _ _ (c.request.ensures.there b fed) c.unwrap.ensures))
           ∙ sym c.is_served.ensures ∙ c.if-not-is_served.false,
       record {
-        pairs = c.in-Ok.ensures.pairs
-            ∙ ap (λ (q : Parts). env_pairs (with_body c.take_input-input.result.bytes q) once_peer once_local) emptied
-            ∙ ap (λ (i : Reading). env_pairs (with_body i.bytes r) once_peer once_local) taken.0;
-        input = c.in-Ok.ensures.input ∙ taken.0;
+        whole = c.in-Ok.ensures.whole (taken.0 ∙ ap (λ (i : Reading). unread i.bytes) (sym taken.0))
+            ∙ ap (λ (q : Parts). environment (with_body c.take_input-input.result.bytes q) once_peer once_local) emptied
+            ∙ ap (λ (i : Reading). environment (with_body i.bytes r) once_peer once_local) taken.0;
         rules = c.in-Ok.ensures.rules;
       },
     )
