@@ -1,14 +1,9 @@
-// What crosses the crates below, over objects in memory: requests one behind the other, the environment of a
-// request, and a long body that is framed and read again.
-use circular_buffer::HeapCircularBuffer;
+// What crosses the crates below, over objects in memory: requests one behind the other, and the environment of a
+// request.
 use message_framing::{Feed, Intake, what_stands};
 use rack_env::refill;
-use rack_types::{
-    Answer, Bytes, Env, Fault, Headers, Input, Kind, Limits, Local, NoMemory, Peer, Plain, Version,
-};
-use reply_framing::{Ask, Filled, Framer};
+use rack_types::{Bytes, Env, Fault, Input, Limits, Local, NoMemory, Peer};
 use std::alloc::Global;
-use std::convert::Infallible;
 use std::test::Fail;
 
 // Feeds an intake the text in pieces of this size, and tells of each request its method, whether it came in
@@ -147,71 +142,6 @@ fn lists_the_pairs(rt: HostRuntime) -> Result<(), Fail> {
         let lines = lines_of(rt.alloc(), &mut env, text, https)?;
         assert_eq!(rt; lines.as_slice(), want.as_bytes());
     }
-    Ok(())
-}
-
-const PIECE: usize = 65_536;
-// `10000`, CR LF, the piece, CR LF
-const FRAMED: usize = PIECE + 9;
-
-const HEAD: &[u8] = b"HTTP/1.1 200 OK\r\ntransfer-encoding: chunked\r\n\r\n";
-
-fn long_answer(alloc: Global) -> Result<Answer<Plain, Infallible>, NoMemory> {
-    let mut pieces = Vec::with_capacity(alloc, 1_024)?;
-    for _ in 0..1_024 {
-        pieces.push(Bytes::new(vec![in alloc; b'x'; PIECE]?))?;
-    }
-    Ok(Answer::Reply {
-        status: 200,
-        headers: Headers::new(alloc),
-        body: Plain::new(pieces, false, false, Kind::Streaming),
-        part: None,
-    })
-}
-
-#[test]
-fn long_body_is_framed_and_read_again(rt: HostRuntime) -> Result<(), Fail> {
-    let alloc = rt.alloc();
-    let ask = Ask {
-        head: false,
-        version: Version::Http11,
-        persists: true,
-    };
-    let env = Env::new(alloc, Input::new(Bytes::new(Vec::new(alloc))));
-    let mut framer = Framer::start(alloc, ask, &env, long_answer(alloc)?, false)?;
-    let mut ring = HeapCircularBuffer::with_capacity(alloc, PIECE)?;
-    let mut first = Vec::new(alloc);
-    let mut sent: u64 = 0;
-    let mut told = Filled::Full;
-    for _ in 0..2_000 {
-        told = framer.fill(&mut ring)?;
-        let (front, back) = ring.as_slices();
-        if first.len() < 17 * FRAMED {
-            first.extend_from_slice(front)?;
-            first.extend_from_slice(back)?;
-        }
-        sent = sent.wrapping_add(ring.len() as u64);
-        ring.clear();
-        if told != Filled::Full {
-            break;
-        }
-    }
-    framer.finish();
-    assert_eq!(rt; told, Filled::Done);
-    assert_eq!(rt; sent, 47 + 1_024 * 65_545 + 5);
-    let (head, rest) = first.as_slice().split_at(HEAD.len());
-    let (chunks, _) = rest.split_at(16 * FRAMED);
-    assert_eq!(rt; head, HEAD);
-    for chunk in chunks.chunks_exact(FRAMED) {
-        assert!(rt; chunk.starts_with(b"10000\r\n") && chunk.ends_with(b"x\r\n"));
-    }
-    let mut intake = Intake::new(alloc, Limits::stock())?;
-    let post: &[u8] = b"POST / HTTP/1.1\r\nHost: a\r\nTransfer-Encoding: chunked\r\n\r\n";
-    assert_eq!(rt; intake.feed(post)?, Feed::More);
-    assert_eq!(rt; intake.feed(chunks)?, Feed::More);
-    assert_eq!(rt; intake.feed(b"0\r\n\r\n")?, Feed::Whole(5));
-    let body = intake.request().map(|request| request.body().len());
-    assert_eq!(rt; body, Some(1_048_576));
     Ok(())
 }
 

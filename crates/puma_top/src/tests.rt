@@ -1,4 +1,6 @@
 // The command `once` over objects in memory, with ample memory.
+ghost use Rattle.std.specs.Prelude.{None};
+
 use crate::{FileWhy, Status, run_quiet};
 use rack_outside::{MemFiles, MemSink, MemSource, Sink, SinkWrite, Source, SourceRead, SureSource};
 use rack_types::{Bytes, NoMemory};
