@@ -88,8 +88,8 @@ def a_turn(counts, makes, text):
 
 
 def figures(request, heads):
-    """Prints the tables, by a function that makes a head of fields and the heads by name, and answers what was
-    compared: its name, what was found and what is wanted at most."""
+    """Prints the tables, by a function that makes a head of fields and the heads by name. Answers what was
+    compared (its name, what was found and what is wanted at most), and what a kept environment costs, by row."""
     if subprocess.run(["rt", "run", "--", KEPT, "0"], cwd=CRATE, stdin=subprocess.DEVNULL,
                       stdout=subprocess.DEVNULL, stderr=subprocess.DEVNULL).returncode != 0:
         sys.exit("the program that turns requests was not built")
@@ -124,4 +124,4 @@ def figures(request, heads):
         times = [found[one][makes] / found[other][makes] for makes in (NEW, KEPT)]
         print(f"| {name} | {times[0]:.2f} times | {times[1]:.2f} times |")
         compared += [(f"names that collide, {name}", most, MOST_FOR_COLLISIONS) for most in times]
-    return compared
+    return compared, {row: costs[KEPT] for row, costs in found.items()}

@@ -3,9 +3,10 @@
 import random
 import socket
 
+from model import once
 from program import Cut
-from wanted import (ANSWERED, BODY_LIMIT, CODED, GET, LENGTH, LINE_LIMIT, NOTHING, READ_LIMIT, SIZE_LINE_LIMIT,
-                    TRAILER_LIMIT, chunks_wanted, post, refused, reply)
+from wanted import (ANSWERED, BODY_LIMIT, CODED, ECHO, GET, HEAD_ONLY, LENGTH, LINE_LIMIT, NOTHING, READ_LIMIT,
+                    SIZE_LINE_LIMIT, TRAILER_LIMIT, post, refusal, refused, reply, served)
 
 
 def check_bodies(checks):
@@ -61,14 +62,20 @@ def check_bodies(checks):
         ("a trailer that looks like a request", refused("F13"), post(CODED, b"0\r\n" + GET)),
         ("a trailer whose lines end in LF alone", none, post(CODED, b"0\r\nT: 1\n\n")),
         ("a last chunk with many zeros and an extension", hello, post(CODED, b"0005\r\nhello\r\n000;a=b\r\n\r\n")),
-        ("a second request behind the chunks", hello, row + GET),
+        ("a second request behind the chunks", served(reply(b"hello"), reply(b"")), row + GET),
+        ("chunks twice", served(reply(b"hello") * 2), row + row),
+        ("a refusal behind chunks", served(reply(b"hello"), refusal("F13")), row + post(CODED, b"5\r\nhelloX")),
         ("a body by length", hello, post([LENGTH + b"0005"], b"hello")),
-        ("a request behind a body", hello, post([LENGTH + b"5"], b"hello" + GET)),
+        ("a request behind a body", served(reply(b"hello"), reply(b"")), post([LENGTH + b"5"], b"hello" + GET)),
+        ("a body behind a body", served(reply(b"hello"), reply(b"12")),
+         post([LENGTH + b"5"], b"hello" + post([LENGTH + b"2"], b"12"))),
+        ("a byte more than the length, which is no request", hello, post([LENGTH + b"5"], b"hello!")),
+        ("half a body behind a body", hello, post([LENGTH + b"5"], b"hello" + post([LENGTH + b"2"], b"1"))),
         ("a body that looks like a request", (0, reply(GET), b""), post([LENGTH + b"%d" % len(GET)], GET)),
         ("a body of bytes of all values", (0, reply(bytes(range(256))), b""), post([LENGTH + b"256"], bytes(range(256)))),
         ("a body that isn't whole", NOTHING, post([LENGTH + b"6"], b"hello")),
         ("HEAD with a body that isn't whole", NOTHING, post([LENGTH + b"6"], b"hello").replace(b"POST", b"HEAD")),
-        ("HEAD with a body", refused("F0"), post([LENGTH + b"5"], b"hello").replace(b"POST", b"HEAD")),
+        ("HEAD with a body", served(HEAD_ONLY), post([LENGTH + b"5"], b"hello").replace(b"POST", b"HEAD")),
         ("an extension and a trailer, which are dropped", hello, row),
     ]
     for name, want, text in rows:
@@ -131,9 +138,9 @@ def check_random_chunks(checks):
             text = text[:at] + broken + text[at + some([0, 1, 1, 2]):]
         if dice.random() < 0.2:
             text = text[:dice.randrange(len(text) + 1)]
-        want = chunks_wanted(text)
-        kinds["waiting" if want == NOTHING else "refused" if b"x-puma-fault" in want[1] else "answered"] += 1
         pieces = post(CODED, text)
+        want = once(ECHO, pieces)
+        kinds["waiting" if want == NOTHING else "refused" if want[1].startswith(b"HTTP/1.1 4") else "answered"] += 1
         cut = Cut.every(pieces, some([1, 2, 3, 7, 50])) if turn % 2 and hasattr(socket, "SOCK_SEQPACKET") else pieces
         checks.wants(f"number {turn}: {text!r}", want, "once", "echo.stack", stdin=cut)
     checks.counts("each kind of answer came", True, min(kinds.values()) > 20)

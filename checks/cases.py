@@ -11,21 +11,28 @@ import sys
 import tempfile
 
 import bodies
+import connections
+import endpoints
 import heads
 import launcher
 import memory
+import scripts
 import streams
 import words
 from program import PUMA, TOP, Checks, write
 from wanted import ECHO, HELLO
 
 GROUPS = (
+    scripts.check_scripts,
     launcher.check_use, launcher.check_builds,
     words.check_words, words.check_files, words.check_stacks,
     streams.check_statuses, streams.check_streams, streams.check_reads_and_writes, streams.check_interruptions,
     memory.check_memory,
     heads.check_requests, heads.check_heads, heads.check_cuts, heads.check_hostile,
     bodies.check_bodies, bodies.check_large_bodies, bodies.check_random_chunks,
+    connections.check_kept, connections.check_pipelined, connections.check_ends, connections.check_waiting_writers,
+    endpoints.check_rows, endpoints.check_endpoints, endpoints.check_broken, endpoints.check_statuses,
+    endpoints.check_long, endpoints.check_environments,
 )
 
 

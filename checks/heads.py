@@ -3,8 +3,13 @@
 import random
 import socket
 
+from model import once
 from program import Cut
-from wanted import ANSWERED, GET, HEAD_LIMIT, NOTHING, READ_LIMIT, noise_wanted, refused
+from wanted import (ANSWERED, CLOSED, GET, HEAD_LIMIT, HEAD_ONLY, HELLO, KEEP, NOTHING, READ_LIMIT, TWICE,
+                    refusal, refused, reply, served)
+
+OLD = b"GET / HTTP/1.0\r\n\r\n"
+KEPT_OLD = served(reply(b"hello", connection=KEEP))
 
 
 def check_requests(checks):
@@ -20,16 +25,18 @@ def check_requests(checks):
         ("spaces and tabs around the value", ANSWERED, get + b"Host: \t a\t \r\n\r\n"),
         ("a longer host", ANSWERED, get + b"Host: abcdefghijklmnopqrstuvwxyz\r\n\r\n"),
         ("a query", ANSWERED, b"GET /a/b?c=d&e HTTP/1.1\r\nHost: a\r\n\r\n"),
-        ("what follows is not answered", ANSWERED, GET + GET),
-        ("what follows is not read as a request", ANSWERED, GET + b"\0\xff\r\n\r\n"),
+        ("two requests", TWICE, GET + GET),
+        ("an empty line between two requests", TWICE, GET + b"\r\n" + GET),
+        ("a request and no request behind it", served(reply(b"hello"), refusal("F3")), GET + b"\0\xff\r\n\r\n"),
         ("empty lines in front", ANSWERED, b"\r\n\n\r\n" + GET),
         ("the longest head", ANSWERED, GET.replace(b"/ ", b"/" + b"a" * long_target + b" ")),
         ("one byte longer", refused("F1"), GET.replace(b"/ ", b"/" + b"a" * (long_target + 1) + b" ")),
-        ("HTTP/1.0", refused("F0"), b"GET / HTTP/1.0\r\n\r\n"),
-        ("HTTP/1.0 with a host", refused("F0"), b"GET / HTTP/1.0\r\nHost: a\r\n\r\n"),
+        ("HTTP/1.0", CLOSED, OLD),
+        ("HTTP/1.0 with a host", CLOSED, b"GET / HTTP/1.0\r\nHost: a\r\n\r\n"),
+        ("HTTP/1.0 with two hosts", refused("F6"), b"GET / HTTP/1.0\r\nHost: a\r\nHost: a\r\n\r\n"),
         ("no host", refused("F6"), get + b"\r\n"),
         ("another field", refused("F6"), get + b"Hosts: a\r\n\r\n"),
-        ("a request that closes", refused("F0"), get + b"Host: a\r\nConnection: close\r\n\r\n"),
+        ("a request that closes", CLOSED, get + b"Host: a\r\nConnection: close\r\n\r\n"),
         ("two hosts", refused("F6"), get + b"Host: a\r\nHost: a\r\n\r\n"),
         ("an empty host", ANSWERED, get + b"Host:\r\n\r\n"),
         ("a host with a capital", ANSWERED, get + b"Host: A\r\n\r\n"),
@@ -124,13 +131,15 @@ def check_heads(checks):
         ("the asterisk, kept alive, with no body", None, b"OPTIONS * HTTP/1.1", [b"Connection: keep-alive", length + b"0"]),
         ("64 fields whose names differ", None, b"GET / HTTP/1.1", [b"X-%d: 1" % i for i in range(63)]),
         ("64 fields of two names that differ in case alone", None, b"GET / HTTP/1.1", [b"X-A: 1", b"x-a: 2"] * 31),
-        ("a request that closes by a list", "F0", b"GET / HTTP/1.1", [b"Connection: a, CLOSE"]),
+        ("a request that closes by a list", CLOSED, b"GET / HTTP/1.1", [b"Connection: a, CLOSE"]),
         ("a request that names close in another word", None, b"GET / HTTP/1.1", [b"Connection: closed"]),
-        ("HEAD", "F0", b"HEAD / HTTP/1.1", []),
-        ("HTTP/1.0 that is kept alive", "F0", b"GET / HTTP/1.0", [b"Connection: keep-alive"]),
+        ("HEAD", served(HEAD_ONLY), b"HEAD / HTTP/1.1", []),
+        ("head in small letters, which is another method", None, b"head / HTTP/1.1", []),
+        ("HTTP/1.0 that is kept alive", KEPT_OLD, b"GET / HTTP/1.0", [b"Connection: keep-alive"]),
+        ("HTTP/1.0 that is kept alive and closes", CLOSED, b"GET / HTTP/1.0", [b"Connection: keep-alive, close"]),
     ]:
         text = b"\r\n".join([line, b"Host: a", *fields, b"", b""])
-        wanted = ANSWERED if want is None else refused(want) if want else NOTHING
+        wanted = {None: ANSWERED, "": NOTHING}.get(want) or (refused(want) if isinstance(want, str) else want)
         checks.wants(name, wanted, "once", "hello.stack", stdin=text)
     get = b"GET / HTTP/1.1\r\n"
     for name, want, host in [
@@ -160,12 +169,12 @@ def check_cuts(checks):
         checks.wants(f"cut behind {size} bytes", ANSWERED, "once", "hello.stack", stdin=cut)
     target = b"/" + b"a" * (HEAD_LIMIT - len(GET))
     longest = GET.replace(b"/", target, 1)
-    old = b"GET / HTTP/1.0\r\n\r\n"
+    closing = GET[:-2] + b"Connection: close\r\n\r\n"
     for name, want, text, size in [
         ("byte by byte", ANSWERED, GET, 1),
         ("half a request byte by byte", NOTHING, GET[:-1], 1),
         ("empty lines byte by byte", ANSWERED, b"\r\n\n" + GET, 1),
-        ("HTTP/1.0 byte by byte", refused("F0"), old, 1),
+        ("HTTP/1.0 byte by byte", CLOSED, OLD, 1),
         ("no head byte by byte", refused("F3"), b"\r\n?x\r\n\r\n", 1),
         ("the longest head in large pieces", ANSWERED, longest, READ_LIMIT),
         ("the longest head in small pieces", ANSWERED, longest, 7),
@@ -177,7 +186,8 @@ def check_cuts(checks):
     ]:
         checks.wants(name, want, "once", "hello.stack", stdin=Cut.every(text, size))
     for name, want, text in [
-        ("a request in front of input that stays open", ANSWERED, GET),
+        ("a request that closes in front of input that stays open", CLOSED, closing),
+        ("HTTP/1.0 in front of input that stays open", CLOSED, OLD),
         ("a refusal in front of input that stays open", refused("F3"), b"x\n\n"),
     ]:
         checks.wants(name, want, "once", "hello.stack", stdin=Cut([text], stays_open=True))
@@ -194,7 +204,7 @@ def check_hostile(checks):
     def noise(size, without=b""):
         return dice.randbytes(size).translate(None, without)
 
-    # A byte above 127 begins no method, so none of these is a request.
+    # A byte above 127 begins no method, so none of these begins with a request.
     noises = [(f"random bytes, {size} of them", b"\xff" + noise(size - 1)) for size in (1, 100, 10000)]
     noises += [(f"random bytes, a mebibyte, number {i}", b"\xff" + noise(mib - 1)) for i in range(1, 6)]
     noises += [
@@ -207,7 +217,9 @@ def check_hostile(checks):
         ("carriage returns, as many as are held", b"\r" * HEAD_LIMIT),
     ]
     for name, text in noises:
-        checks.wants(name, noise_wanted(text), "once", "hello.stack", stdin=text)
+        checks.wants(name, once(HELLO, text), "once", "hello.stack", stdin=text)
+        behind = served(reply(b"hello"), once(HELLO, text)[1])
+        checks.wants(name + ", behind a request", behind, "once", "hello.stack", stdin=GET + text)
 
     room = HEAD_LIMIT - len(GET)
     for name, want, text in [
@@ -222,7 +234,8 @@ def check_hostile(checks):
         ("a value without end", refused("F1"), b"GET / HTTP/1.1\r\nHost: " + b"a" * mib),
         ("fields without end", refused("F1"), b"GET / HTTP/1.1\r\n" + b"Host: a\r\n" * 100000),
         ("a value without end that is held", NOTHING, (b"GET / HTTP/1.1\r\nHost: " + b"a" * mib)[:HEAD_LIMIT]),
-        ("a request and a mebibyte behind it", ANSWERED, GET + noise(mib)),
+        ("a request and a mebibyte of zeros behind it", served(reply(b"hello"), refusal("F1")), GET + bytes(mib)),
+        ("a request that closes and a mebibyte behind it", CLOSED, GET[:-2] + b"Connection: close\r\n\r\n" + noise(mib)),
     ]:
         checks.wants(name, want, "once", "hello.stack", stdin=text)
     checks.wants("zeros without end", refused("F1"), "once", "hello.stack", stdin="/dev/zero")

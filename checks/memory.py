@@ -3,6 +3,7 @@
 import os
 import resource
 
+from model import once
 from program import PROGRAM, run, write
 from wanted import BODY_LIMIT, CODED, FILE_LIMIT, GET, LENGTH, NO_MEMORY, post
 
@@ -17,6 +18,9 @@ def check_memory(checks):
     checks.begin("want of memory")
     front = b"run text 200 text/plain "
     write("most", front + b"h" * (FILE_LIMIT - len(front)))
+    write("env.stack", b"run env\n")
+    write("pieces.stack", b"run pieces 200 " + b" ".join([b"ab"] * 10000) + b"\n")
+    write("raise.stack", b"run raise oops\n")
     body = b"a" * BODY_LIMIT
     chunks = b"".join(b"4000\r\n" + body[:0x4000] + b"\r\n" for _ in range(BODY_LIMIT // 0x4000)) + b"0\r\n\r\n"
     for name, words, stdin in [
@@ -27,6 +31,11 @@ def check_memory(checks):
         ("a refusal", ["once", "hello.stack"], b"x\n\n"),
         ("an echo of 1 MiB by length", ["once", "echo.stack"], post([LENGTH + b"%d" % BODY_LIMIT], body)),
         ("an echo of 1 MiB in chunks", ["once", "echo.stack"], post(CODED, chunks)),
+        ("a small request and a large one", ["once", "echo.stack"], GET + post([LENGTH + b"%d" % BODY_LIMIT], body)),
+        ("small requests and large ones", ["once", "env.stack"],
+         GET + post([b"X-%d: %s" % (i, b"a" * 400) for i in range(63)]) + GET),
+        ("many pieces", ["once", "pieces.stack"], GET * 2),
+        ("a broken answer", ["once", "raise.stack"], GET),
     ]:
         check_less_and_less(checks, name, words, stdin)
     check_mute(checks)
@@ -34,6 +43,9 @@ def check_memory(checks):
 
 def check_less_and_less(checks, name, words, stdin):
     right = run(words, stdin=stdin, program=(PROGRAM,))
+    if len(words) == 2:
+        with open(words[1], "rb") as stack:
+            checks.answers(name + ", with ample memory", once(stack.read(), stdin), right)
     ample = least(lambda space: within(space, words, stdin) == right)
     begins = least(lambda space: has_begun(within(space, words, stdin)))
     if begins >= ample:
@@ -41,7 +53,10 @@ def check_less_and_less(checks, name, words, stdin):
         return
     step = max(1, (ample - begins) // STEPS)
     got = {space: within(space, words, stdin) for space in range(begins, ample, step)}
-    others = {space: answer for space, answer in got.items() if answer != NO_MEMORY}
+    # What was written is a front of what is right, and of a single reply nothing is.
+    some = right[1].count(b"HTTP/1.1 ") > 1
+    others = {space: answer for space, answer in got.items()
+              if answer != NO_MEMORY and not (some and answer[::2] == NO_MEMORY[::2] and right[1].startswith(answer[1]))}
     checks.counts(f"{name}, other answers by pages of address space", {}, others)
 
 

@@ -8,11 +8,16 @@ import socket
 import subprocess
 
 from program import PROGRAM, PUMA, Ready, Reset, run, write
-from wanted import (ANSWERED, BODY_LIMIT, CODED, FILE_LIMIT, GET, LENGTH, NOTHING, READ_FAILED, UNREADABLE,
-                    WRITE_FAILED, post, refusal, reply)
+from wanted import (ANSWERED, BODY_LIMIT, CLOSE, CODED, FILE_LIMIT, GET, HEAD_ONLY, LENGTH, NOTHING, READ_FAILED,
+                    UNREADABLE, WRITE_FAILED, post, refusal, reply)
 
 LARGE = post([LENGTH + b"%d" % BODY_LIMIT], b"a" * BODY_LIMIT)
 LARGE_REPLY = reply(b"a" * BODY_LIMIT)
+# All that came was answered, and then a read failed.
+CUT_OFF = (6, reply(b"hello"), READ_FAILED[2])
+WRITE_FAILED_LATER = (7, reply(b"hello"), WRITE_FAILED[2])
+# Before each write the ring of a connection is filled from the reply.
+RING = 65536
 
 
 def without(stream, program=PUMA):
@@ -23,7 +28,7 @@ def without(stream, program=PUMA):
 def check_statuses(checks):
     """The table of exit statuses, each with its line, and each where standard error takes nothing too."""
     checks.begin("exit statuses")
-    write("bad.stack", b"run env\n")
+    write("bad.stack", b"rnu env\n")
     write("long", b"h" * (FILE_LIMIT + 1))
     # Of the status for want of memory memory.py tells.
     for number, line, words, stdin in [
@@ -66,10 +71,14 @@ def check_streams(checks):
         ("input that is a folder", READ_FAILED, "/"),
         ("input that breaks off", READ_FAILED, Reset(GET[:-1])),
         ("input that breaks off at once", READ_FAILED, Reset(b"")),
-        ("input that breaks off behind a whole request", ANSWERED, Reset(GET)),
+        ("input that breaks off behind a whole request", CUT_OFF, Reset(GET)),
+        ("input that breaks off in a second request", CUT_OFF, Reset(GET + GET[:-1])),
+        ("input that breaks off behind a request that closes", (0, reply(b"hello", connection=CLOSE), b""),
+         Reset(GET[:-2] + b"Connection: close\r\n\r\n")),
         ("input of which half is there, and a read would wait", READ_FAILED, Ready(GET[:-1])),
         ("input of which nothing is there, and a read would wait", READ_FAILED, Ready(b"")),
-        ("input of which all is there, and a read would wait", ANSWERED, Ready(GET)),
+        ("input of which all is there, and a read would wait", CUT_OFF, Ready(GET)),
+        ("input of which all is there, and no read is needed", (0, refusal("F3"), b""), Ready(b"x\n\n")),
     ]:
         checks.wants(name, want, "once", "hello.stack", stdin=stdin)
     checks.wants("input that is closed", READ_FAILED, "once", "hello.stack", program=without("<"))
@@ -164,37 +173,61 @@ def check_reads_and_writes(checks):
     behind = b"never read"
     coded = post(CODED, b"5\r\nhello\r\n0\r\n\r\n")
     length = post([LENGTH + b"5"], b"hello")
+    closing = GET[:-2] + b"Connection: close\r\n\r\n"
+    large = reply(b"a" * 100000)
+    hello, closed = reply(b"hello"), reply(b"hello", connection=CLOSE)
     for name, stack, want, pieces in [
-        ("a request", "hello.stack", ANSWERED[1], [GET]),
-        ("a request in two pieces", "hello.stack", ANSWERED[1], [GET[:9], GET[9:]]),
-        ("a request and some bytes behind it", "hello.stack", ANSWERED[1], [GET + b"GET /"]),
-        ("a request and another", "hello.stack", ANSWERED[1], [GET + GET]),
-        ("a request behind an empty line", "hello.stack", ANSWERED[1], [b"\r\n", GET]),
-        ("a body by length", "echo.stack", reply(b"hello"), [length]),
-        ("a body by length in two pieces", "echo.stack", reply(b"hello"), [length[:-2], length[-2:]]),
-        ("a body in chunks", "echo.stack", reply(b"hello"), [coded]),
-        ("a body in chunks, byte by byte", "echo.stack", reply(b"hello"), [coded[at:at + 1] for at in range(len(coded))]),
-        ("a body of 10,000 bytes", "echo.stack", reply(b"a" * 10000), [post([LENGTH + b"10000"]), b"a" * 10000]),
-        ("a request that is not built", "hello.stack", refusal("F0"), [GET.replace(b"GET", b"HEAD")]),
-        ("a refusal of a head", "hello.stack", refusal("F3"), [b"x\n", b"\n"]),
-        ("a refusal of a length", "echo.stack", refusal("F11"), [post([LENGTH + b"x"])]),
-        ("a refusal of a chunk", "echo.stack", refusal("F13"), [post(CODED), b"5\r\nhelloX"]),
+        ("a request", "hello.stack", [hello], [GET]),
+        ("a request in two pieces", "hello.stack", [hello], [GET[:9], GET[9:]]),
+        ("a request and some bytes behind it", "hello.stack", [hello], [GET + b"GET /"]),
+        ("two requests in one piece", "hello.stack", [hello] * 2, [GET + GET]),
+        ("two requests in two pieces", "hello.stack", [hello] * 2, [GET, GET]),
+        ("two requests, cut inside the second", "hello.stack", [hello] * 2, [GET + GET[:5], GET[5:]]),
+        ("25 requests in one piece", "hello.stack", [hello] * 25, [GET * 25]),
+        ("a request behind an empty line", "hello.stack", [hello], [b"\r\n", GET]),
+        ("a body by length", "echo.stack", [hello], [length]),
+        ("a body by length in two pieces", "echo.stack", [hello], [length[:-2], length[-2:]]),
+        ("a body in chunks", "echo.stack", [hello], [coded]),
+        ("a body in chunks, byte by byte", "echo.stack", [hello], [coded[at:at + 1] for at in range(len(coded))]),
+        ("a body of 10,000 bytes", "echo.stack", [reply(b"a" * 10000)], [post([LENGTH + b"10000"]), b"a" * 10000]),
+        ("a body of 100,000 bytes", "echo.stack", [large[:RING], large[RING:]],
+         [post([LENGTH + b"100000"]), *[b"a" * 10000] * 10]),
+        ("a HEAD", "hello.stack", [HEAD_ONLY], [GET.replace(b"GET", b"HEAD")]),
     ]:
-        read, wrote, status = packets(stack, [*pieces, behind])
+        read, wrote, status = packets(stack, pieces)
+        checks.counts(name + ", what each write took", want, wrote)
+        checks.counts(name + ", its status", 0, status)
+        checks.counts(name + ", what was not read", b"", read)
+    # Behind a reply that closes nothing is read.
+    for name, stack, want, pieces in [
+        ("a request that closes", "hello.stack", [closed], [closing]),
+        ("a request that closes behind two others", "hello.stack", [hello, hello, closed], [GET + GET + closing]),
+        ("two requests that close", "hello.stack", [closed], [closing + closing]),
+        ("HTTP/1.0", "hello.stack", [closed], [b"GET / HTTP/1.0\r\n\r\n"]),
+        ("a refusal of a head", "hello.stack", [refusal("F3")], [b"x\n", b"\n"]),
+        ("a refusal behind a request", "hello.stack", [hello, refusal("F3")], [GET, b"x\n", b"\n"]),
+        ("a refusal of a length", "echo.stack", [refusal("F11")], [post([LENGTH + b"x"])]),
+        ("a refusal of a chunk", "echo.stack", [refusal("F13")], [post(CODED), b"5\r\nhelloX"]),
+    ]:
+        read, wrote, status = packets(stack, [*pieces, behind], stays_open=True)
         checks.counts(name + ", what was not read", behind, read)
-        checks.counts(name + ", what each write took", [want], wrote)
+        checks.counts(name + ", what each write took", want, wrote)
         checks.counts(name + ", its status", 0, status)
 
 
-def packets(stack, pieces):
+def packets(stack, pieces, stays_open=False):
     """What was left unread of the pieces, what each write took, and the status."""
     far, near = socket.socketpair(socket.AF_UNIX, socket.SOCK_SEQPACKET)
     reader, writer = socket.socketpair(socket.AF_UNIX, socket.SOCK_SEQPACKET)
+    for end in (far, writer):
+        end.setsockopt(socket.SOL_SOCKET, socket.SO_SNDBUF, 1 << 20)
     with far, near, reader:
         for piece in pieces:
             far.send(piece)
+        if not stays_open:
+            far.shutdown(socket.SHUT_WR)
         with writer:
-            # The far end stays open, so that one read too many would wait.
+            # Where the far end stays open, one read too many would wait.
             ended = run(["once", stack], stdin=near, stdout=writer)
         wrote = []
         while piece := reader.recv(1 << 20):
@@ -212,6 +245,7 @@ def check_interruptions(checks):
     checks.begin("interruptions and failed calls")
     write("request", GET)
     write("half", GET[:-1])
+    write("two", GET + GET)
     try:
         tried = subprocess.run(["strace", "-o", "trace", "-e", "inject=read:error=EINTR:when=999", "true"],
                                capture_output=True)
@@ -233,6 +267,9 @@ def check_interruptions(checks):
          [*reads, "-e", "inject=read:error=EAGAIN:when=1"]),
         ("a read of the input that fails behind some bytes", READ_FAILED, "half", 1,
          [*half, "-e", "inject=read:error=EIO:when=2"]),
+        ("a read of the input that fails behind a whole request", CUT_OFF, "request", 1,
+         [*reads, "-e", "inject=read:error=EIO:when=2"]),
+        ("a second write that fails", WRITE_FAILED_LATER, "two", 1, ["-e", "inject=write:error=EIO:when=2"]),
         ("a first write that fails", WRITE_FAILED, "request", 1, ["-e", "inject=write:error=EIO:when=1"]),
         ("a first write that would wait", WRITE_FAILED, "request", 1, ["-e", "inject=write:error=EAGAIN:when=1"]),
         ("a first write that takes nothing", WRITE_FAILED, "request", 1, ["-e", "inject=write:retval=0:when=1"]),

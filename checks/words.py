@@ -5,6 +5,7 @@ import subprocess
 import threading
 import time
 
+from model import endpoint_of, escaped
 from program import PROGRAM, write
 from wanted import (ABSENT, ANSWERED, ECHO, FILE_LIMIT, GET, HELLO, LENGTH, LONG, NO_STACK, UNREADABLE, USAGE, post,
                     reply)
@@ -137,11 +138,7 @@ def check_stacks(checks):
         ("a second line", HELLO + HELLO),
         ("a second line that is empty", HELLO + b"\n"),
         ("a line in front that is empty", b"\n" + HELLO),
-        ("another status", b"run text 201 text/plain hello\n"),
-        ("a status of another hundred", b"run text 404 text/plain hello\n"),
-        ("a status with a zero in front", b"run text 0200 text/plain hello\n"),
-        ("another endpoint", b"run env\n"),
-        ("another endpoint of that form", b"run texts 200 text/plain hello\n"),
+        ("an unknown endpoint", b"run texts 200 text/plain hello\n"),
         ("an endpoint that only begins like echo", b"run echoes\n"),
         ("an endpoint that echo begins with", b"run ech\n"),
         ("echo in capitals", b"run Echo\n"),
@@ -159,18 +156,102 @@ def check_stacks(checks):
         ("an empty body", b"run text 200 text/plain \n"),
         ("an empty type", b"run text 200  hello\n"),
         ("a word too many", b"run text 200 text/plain hello there\n"),
-        ("a backslash in the body", b"run text 200 text/plain hel\\slo\n"),
-        ("a backslash in the type", b"run text 200 text\\plain hello\n"),
+        ("a bad pair in the type", b"run text 200 text\\plain hello\n"),
         ("the byte 127", b"run text 200 text/plain hello\x7f\n"),
         ("a byte above 127", b"run text 200 text/plain h\xc3\xa9llo\n"),
         ("the byte 31", b"run text 200 text/plain hello\x1f\n"),
+        ("a bad pair", b"run text 200 text/plain hel\\qlo\n"),
+        ("a pair with a capital", b"run text 200 text/plain hel\\Slo\n"),
+        ("a backslash at the end", b"run text 200 text/plain hello\\\n"),
+        ("the empty text beside a byte", b"run text 200 text/plain \\eh\n"),
+        ("the empty text behind a byte", b"run text 200 text/plain h\\e\n"),
+        ("the empty text twice", b"run text 200 text/plain \\e\\e\n"),
+        ("no digit", b"run text 200 text/plain \\x\n"),
+        ("one digit", b"run text 200 text/plain \\x4\n"),
+        ("a digit that is none", b"run text 200 text/plain \\x4g\n"),
+        ("a capital x", b"run text 200 text/plain \\X41\n"),
+        ("a bad pair among the pieces", b"run pieces 200 a \\q b\n"),
+        ("a bad pair in a status", b"run text 2\\q0 text/plain hello\n"),
+        ("an escaped name", b"run \\x65cho\n"),
+        ("an escaped verb", b"\\x72un echo\n"),
+        ("an escaped space between words", b"run\\secho\n"),
+        ("a status of 99", b"run text 99 text/plain hello\n"),
+        ("a status of 1000", b"run text 1000 text/plain hello\n"),
+        ("a status of 0", b"run text 0 text/plain hello\n"),
+        ("a status with a sign", b"run text +200 text/plain hello\n"),
+        ("a status in hexadecimal", b"run text 0xc8 text/plain hello\n"),
+        ("a status that isn't one", b"run text ok text/plain hello\n"),
+        ("an empty status", b"run text \\e text/plain hello\n"),
+        ("a status of 2^128 and 200", b"run text 340282366920938463463374607431768211656 text/plain hello\n"),
+        ("text without arguments", b"run text\n"),
+        ("env with an argument", b"run env x\n"),
+        ("env with an empty argument", b"run env \\e\n"),
+        ("pieces without a status", b"run pieces\n"),
+        ("pieces with a status of 99", b"run pieces 99 a\n"),
+        ("pieces with a status of 1000", b"run pieces 1000 a\n"),
+        ("pieces that begin with no status", b"run pieces a b\n"),
+        ("two spaces between pieces", b"run pieces 200 a  b\n"),
+        ("two spaces between values", b"run stream a  b\n"),
+        ("stream and a space", b"run stream \n"),
+        ("cookies without a value", b"run cookies\n"),
+        ("bad without a number", b"run bad\n"),
+        ("bad with 0", b"run bad 0\n"),
+        ("bad with 9", b"run bad 9\n"),
+        ("bad with 11", b"run bad 11\n"),
+        ("bad with 257", b"run bad 257\n"),
+        ("bad with a word", b"run bad x\n"),
+        ("bad with an empty word", b"run bad \\e\n"),
+        ("bad with nine numbers", b"run bad 1 2 3 4 5 6 7 8 10\n"),
+        ("bad with a list", b"run bad 1,2\n"),
+        ("raise without a text", b"run raise\n"),
+        ("raise with two texts", b"run raise a b\n"),
+        ("late without a length", b"run late\n"),
+        ("late with a word for its length", b"run late x\n"),
+        ("late with an exclamation mark for its length", b"run late !\n"),
+        ("late with a length above the most", b"run late 1000001\n"),
+        ("late with a negative length", b"run late -1\n"),
+        ("late with an empty length", b"run late \\e a\n"),
+        ("take", b"run take echo\n"),
+        ("part", b"run part 200 echo\n"),
+        ("another endpoint in capitals", b"run TEXT 200 text/plain hello\n"),
+        ("a middleware", b"use head\n"),
+        ("a middleware in front", b"use head\nrun echo\n"),
+        ("a place", b"map /a\n"),
+        ("a comment", b"# c\n"),
+        ("a comment in front", b"# c\nrun echo\n"),
+        ("a byte above 127 in a piece", b"run pieces 200 \xff\n"),
     ]:
         checks.wants(name, NO_STACK, "once", write("stack", text), stdin=GET)
+        # The rules on which the other cases rest say the same.
+        checks.counts(name + ", by the rules", None, endpoint_of(text))
     write("stack", b"run echoes\n")
     checks.wants("a bad stack before a failed read", NO_STACK, "once", "stack", stdin="/")
-    write("stack", ECHO[:-1])
-    checks.wants("echo without a line end", (0, reply(b""), b""), "once", "stack", stdin=GET)
-    write("stack", HELLO[:-1])
-    checks.wants("no line end", ANSWERED, "once", "stack", stdin=GET)
-    write("stack", b"run text 200 ! ~\n")
-    checks.wants("the first and the last byte", (0, reply(b"~", b"!"), b""), "once", "stack", stdin=GET)
+    for name, want, text in [
+        ("echo without a line end", reply(b""), ECHO[:-1]),
+        ("no line end", reply(b"hello"), HELLO[:-1]),
+        ("the first and the last byte", reply(b"~", b"!"), b"run text 200 ! ~\n"),
+        ("a space in the body", reply(b"hel lo"), b"run text 200 text/plain hel\\slo\n"),
+        ("a status with zeros in front", reply(b"hello"), b"run text 000200 text/plain hello\n"),
+        ("a status that is escaped", reply(b"hello"), b"run text \\x32\\x30\\x30 text/plain hello\n"),
+        ("a body that is a comment's sign", reply(b"#"), b"run text 200 text/plain #\n"),
+        ("an empty body", reply(b""), b"run text 200 text/plain \\e\n"),
+        ("an empty type", reply(b"hello", b""), b"run text 200 \\e hello\n"),
+        ("a body of line ends", reply(b"\r\n\r\n"), b"run text 200 text/plain \\r\\n\\r\\n\n"),
+        ("a backslash", reply(b"\\"), b"run text 200 text/plain \\\\\n"),
+        ("a backslash and a letter", reply(b"\\e"), b"run text 200 text/plain \\\\e\n"),
+        ("digits in capitals", reply(b"\xab"), b"run text 200 text/plain \\xAB\n"),
+        ("digits in both", reply(b"\xab"), b"run text 200 text/plain \\xAb\n"),
+        ("letters that need no escape", reply(b"hello"), b"run text 200 text/plain \\x68\\x65\\x6c\\x6C\\x6f\n"),
+        ("a type with a parameter", reply(b"hello", b"text/html; charset=utf-8"),
+         b"run text 200 text/html;\\scharset=utf-8 hello\n"),
+    ]:
+        checks.wants(name, (0, want, b""), "once", write("stack", text), stdin=GET)
+    # Each byte in an argument, by its two digits and as it is written.
+    for byte in range(256):
+        text = bytes([byte])
+        for word, body in [(b"\\x%02x" % byte, text), (escaped(text), text), (b"a" + escaped(text) + b"b", b"a" + text + b"b")]:
+            checks.wants(f"the byte {byte} as {word!r}", (0, reply(body), b""), "once",
+                         write("stack", b"run text 200 text/plain " + word + b"\n"), stdin=GET)
+    every = bytes(range(256))
+    checks.wants("all bytes", (0, reply(every), b""), "once",
+                 write("stack", b"run text 200 text/plain " + escaped(every) + b"\n"), stdin=GET)

@@ -14,8 +14,8 @@ use Rattle.pool_core.specs.declared.view.Stage.{Stage}
 use Rattle.pool_core.specs.declared.view.Stage.TheVariants.{Fresh, Loaded, Open}
 use Rattle.pool_core.specs.declared.view.PassView.{PassView}
 use Rattle.pool_core.specs.Repeats.{SameElements}
-use Rattle.pool_core.specs.Pass.{IsOpen, FitsStage, IsWhole, with_put, with_taken, split_off, with_one_more_out, joined, Knows, HeldItem}
-use Rattle.pool_core.specs.Rule.{fresh_pass, at_stage, spent, FitsView, Holds, entries, Kept, Puts, Takes, Learns, PutsData, TakesData, Agrees}
+use Rattle.pool_core.specs.Pass.{IsOpen, FitsStage, with_put, with_taken, split_off, with_one_more_out, joined, IsLeft}
+use Rattle.pool_core.specs.Rule.{fresh_pass, at_stage, spent, FitsView, Holds, entries, Kept, Knows, Puts, Takes, Learns, PutsData, TakesData, Agrees}
 use Rattle.pool_core.proofs.ViewLemmas.{sum_by-set_at, le-sum_by, get_elem-set, each-set, others_have_none, sum_by-alone}
 
 module _ {T D : Type 0} (entry : T → ℕ × ℕ) (fits : D → T → Type 0) where
@@ -83,15 +83,19 @@ module _ {T D : Type 0} (entry : T → ℕ × ℕ) (fits : D → T → Type 0) w
   knows id v items views alive all k at =
       record {
         fit = all;
-        balance = λ whole weight.
-            let own = (k.each id v at).first whole.0 in
-            let count = k.count in
-            let one : sum_by (λ (u : PassView D). u.live) views ≡ v.live = omega (arith, own.1, whole.1) in
-            let put = sum_by-alone (λ (u : PassView D). u.live) (λ u. sum_by weight u.put) views id v at one (λ j u e z. ap (sum_by weight) ((k.each j u e).spent z).0) in
-            let taken = sum_by-alone (λ (u : PassView D). u.live) (λ u. sum_by weight u.taken) views id v at one (λ j u e z. ap (sum_by weight) ((k.each j u e).spent z).1) in
-            let sums = k.balance weight in
-            let held : sum_by weight (entries entry fits (map Item items)) ≡ sum_by weight (map entry items) = ap (sum_by weight) (entries-items items) in
-            omega (arith, sum_by-append weight v.taken (map entry items));
+        whole = λ whole.
+            record {
+              fit = all;
+              balance = λ weight.
+                  let own = (k.each id v at).first whole.0 in
+                  let count = k.count in
+                  let one : sum_by (λ (u : PassView D). u.live) views ≡ v.live = omega (arith, own.1, whole.1) in
+                  let put = sum_by-alone (λ (u : PassView D). u.live) (λ u. sum_by weight u.put) views id v at one (λ j u e z. ap (sum_by weight) ((k.each j u e).spent z).0) in
+                  let taken = sum_by-alone (λ (u : PassView D). u.live) (λ u. sum_by weight u.taken) views id v at one (λ j u e z. ap (sum_by weight) ((k.each j u e).spent z).1) in
+                  let sums = k.balance weight in
+                  let held : sum_by weight (entries entry fits (map Item items)) ≡ sum_by weight (map entry items) = ap (sum_by weight) (entries-items items) in
+                  omega (arith, sum_by-append weight v.taken (map entry items));
+            };
       }
 
   pub begins : Kept entry fits [] (fresh_pass ∷ [])
@@ -199,34 +203,43 @@ module _ {T D : Type 0} (entry : T → ℕ × ℕ) (fits : D → T → Type 0) w
       → (s : Snapshot D) × (cargo ≡ Start s ∷ []) × (s.value ≡ d) × (out ≡ 0)
   holds_data stage d out cargo e h = subst (λ (x : Stage D). Holds fits x out cargo) e h
 
+  -- the one pass that is not spent goes on to another stage, and the queue to other cargo with the same items
+  staged : (id : ℕ) (v : PassView D) (cargo rest : List (Cargo T D)) (views : List (PassView D)) (stage : Stage D)
+      → v.live ≡ 1 → (k : Kept entry fits cargo views) → get_elem? views id ≡ some v → k.out ≡ 0
+      → entries entry fits cargo ≡ entries entry fits rest → Holds fits stage k.out rest
+      → Kept entry fits rest (set views id (at_stage stage v))
+  staged id v cargo rest views stage alive k at none same held =
+      let w = at_stage stage v in
+      let mine = k.each id v at in
+      let count = k.count in
+      let one : sum_by (λ (u : PassView D). u.live) views ≡ v.live = omega arith in
+      let c = sum_by-set_at (λ (u : PassView D). u.live) views id v w at in
+      record {
+        stage = stage;
+        home = k.home;
+        out = k.out;
+        count = omega arith;
+        balance = λ h.
+            let a = sum_by-set_at (λ (u : PassView D). sum_by h u.put) views id v w at in
+            let b = sum_by-set_at (λ (u : PassView D). sum_by h u.taken) views id v w at in
+            let p = k.balance h in
+            let q : sum_by h (entries entry fits cargo) ≡ sum_by h (entries entry fits rest) = ap (sum_by h) same in
+            omega arith;
+        each = each-set (FitsView stage k.home k.out) views id w
+            (record { once = mine.once; same = λ _. (refl, refl); spent = mine.spent; first = mine.first })
+            (λ j u apart e. alone k.stage stage k.home k.out id v views at one j u apart e (k.each j u e));
+        holds = held;
+      }
+
   pub loads : (n id : ℕ) (v : PassView D) (s : Snapshot D) → v.live ≡ 1 → v.stage ≡ Fresh
       → Pushes (Kept entry fits) n id v (Start s) (PutsData entry fits v (Start s))
   loads n id v s alive fresh cargo views room k at =
-      let w = at_stage (Loaded s.value) v in
-      let mine = k.each id v at in
-      let was = holds_none k.stage k.out cargo (sym (mine.same alive).0 ∙ fresh) k.holds in
-      let count = k.count in
-      let none_out = was.1 in
-      let one : sum_by (λ (u : PassView D). u.live) views ≡ v.live = omega arith in
-      let c = sum_by-set_at (λ (u : PassView D). u.live) views id v w at in (
-        w,
-        record {
-          stage = Loaded s.value;
-          home = k.home;
-          out = k.out;
-          count = omega arith;
-          balance = λ h.
-              let a = sum_by-set_at (λ (u : PassView D). sum_by h u.put) views id v w at in
-              let b = sum_by-set_at (λ (u : PassView D). sum_by h u.taken) views id v w at in
-              let p = k.balance h in
-              let q : sum_by h (entries entry fits cargo) ≡ 0 = ap (λ l. sum_by h (entries entry fits l)) was.0 in
-              let r : sum_by h (entries entry fits (cargo ++ Start s ∷ [])) ≡ 0 = ap (λ l. sum_by h (entries entry fits (l ++ Start s ∷ []))) was.0 in
-              omega arith;
-          each = each-set (FitsView (Loaded s.value) k.home k.out) views id w
-              (record { once = mine.once; same = λ _. (refl, refl); spent = mine.spent; first = mine.first })
-              (λ j u apart e. alone k.stage (Loaded s.value) k.home k.out id v views at one j u apart e (k.each j u e));
-          holds = (s, ap (λ l. l ++ Start s ∷ []) was.0, refl, was.1);
-        },
+      let was = holds_none k.stage k.out cargo (sym ((k.each id v at).same alive).0 ∙ fresh) k.holds in
+      let same : entries entry fits cargo ≡ entries entry fits (cargo ++ Start s ∷ []) =
+      ap (entries entry fits) was.0 ∙ sym (ap (λ l. entries entry fits (l ++ Start s ∷ [])) was.0) in (
+        at_stage (Loaded s.value) v,
+        staged id v cargo (cargo ++ Start s ∷ []) views (Loaded s.value) alive k at was.1 same
+            (s, ap (λ l. l ++ Start s ∷ []) was.0, refl, was.1),
         (s, refl, refl),
       )
 
@@ -235,33 +248,12 @@ module _ {T D : Type 0} (entry : T → ℕ × ℕ) (fits : D → T → Type 0) w
 
   pub opens : (id : ℕ) (v : PassView D) (d : D) → v.live ≡ 1 → v.stage ≡ Loaded d → Pops (Kept entry fits) id v (TakesData entry fits v)
   opens id v d alive loaded c cargo views k at =
-      let mine = k.each id v at in
-      let was = holds_data k.stage d k.out (c ∷ cargo) (sym (mine.same alive).0 ∙ loaded) k.holds in
+      let was = holds_data k.stage d k.out (c ∷ cargo) (sym ((k.each id v at).same alive).0 ∙ loaded) k.holds in
       let s : Snapshot D = was.0 in
-      let w = at_stage (Open s.value) v in
-      let front = head_is c cargo s was.1 in
-      let count = k.count in
-      let none_out = was.3 in
-      let one : sum_by (λ (u : PassView D). u.live) views ≡ v.live = omega arith in
-      let l = sum_by-set_at (λ (u : PassView D). u.live) views id v w at in (
-        w,
-        record {
-          stage = Open s.value;
-          home = k.home;
-          out = k.out;
-          count = omega arith;
-          balance = λ h.
-              let a = sum_by-set_at (λ (u : PassView D). sum_by h u.put) views id v w at in
-              let b = sum_by-set_at (λ (u : PassView D). sum_by h u.taken) views id v w at in
-              let p = k.balance h in
-              let q : sum_by h (entries entry fits (c ∷ cargo)) ≡ sum_by h (entries entry fits cargo) =
-              ap (λ y. sum_by h (entries entry fits (y ∷ cargo))) front.0 in
-              omega arith;
-          each = each-set (FitsView (Open s.value) k.home k.out) views id w
-              (record { once = mine.once; same = λ _. (refl, refl); spent = mine.spent; first = mine.first })
-              (λ j u apart e. alone k.stage (Open s.value) k.home k.out id v views at one j u apart e (k.each j u e));
-          holds = ([], front.1, All-nil (fits s.value));
-        },
+      let front = head_is c cargo s was.1 in (
+        at_stage (Open s.value) v,
+        staged id v (c ∷ cargo) cargo views (Open s.value) alive k at was.3 (ap (λ y. entries entry fits (y ∷ cargo)) front.0)
+            ([], front.1, All-nil (fits s.value)),
         (s, front.0, loaded ∙ ap Loaded (sym was.2), refl),
       )
 
@@ -344,10 +336,10 @@ module _ {T D : Type 0} (entry : T → ℕ × ℕ) (fits : D → T → Type 0) w
   pub agrees : (id : ℕ) (v : PassView D) → v.live ≡ 1 → Teaches (Kept entry fits) id v (Agrees v)
   agrees id v alive cargo views k at = let mine = (k.each id v at).same alive in mine.1 ∙ sym mine.0
 
-  -- with a whole pass, an item that is there was put and not yet taken
-  pub first_differs : (v : PassView D) (x : T) → HeldItem entry fits v x → IsWhole v → ¬ SameElements v.put v.taken
-  first_differs v x h whole same =
+  -- where an item was put and not yet taken, put and taken differ
+  pub left_differs : (v : PassView D) (x : T) → IsLeft entry fits v x → ¬ SameElements v.put v.taken
+  left_differs v x l same =
       let one : ℕ × ℕ → ℕ = λ _. 1 in
-      let a = h.knows.balance whole one in
+      let a = l.left.balance one in
       let b = same one in
-      omega (arith, sum_by-append one v.taken (map entry (x ∷ h.rest)), sum_by-cons one (entry x) (map entry h.rest))
+      omega (arith, sum_by-append one v.taken (map entry (x ∷ l.rest)), sum_by-cons one (entry x) (map entry l.rest))

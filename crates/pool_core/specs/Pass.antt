@@ -67,22 +67,22 @@ module _ {D : Type 0} where
       }
 
 module _ {T D : Type 0} (entry : T → ℕ × ℕ) (fits : D → T → Type 0) where
-  -- what a call tells of the items that the lane held at one moment of the call, in some order: each fits
-  -- the lane's data, and for a whole pass what was put is what was taken and these, with repeats
-  pub record Knows (v : PassView D) (items : List T) : Type 0 where
+  -- these items, in some order, are what was put and not yet taken, and each fits the lane's data. It is said
+  -- of a whole pass alone, whose lists are all that was put and taken
+  pub record AreLeft (v : PassView D) (items : List T) : Type 0 where
     pub fit : All (FitsStage fits v.stage) items
-    pub balance : IsWhole v → SameElements v.put (v.taken ++ map entry items)
+    pub balance : SameElements v.put (v.taken ++ map entry items)
 
-  -- at one moment of the call the lane held n items
-  pub record HeldAtOnce (v : PassView D) (n : ℕ) : Type 0 where
+  -- n items were put and not yet taken
+  pub record HasLeft (v : PassView D) (n : ℕ) : Type 0 where
     pub items : List T
     pub count : length items ≡ n
-    pub knows : Knows v items
+    pub left : AreLeft v items
 
-  -- at one moment of the call the lane held this item, and these others
-  pub record HeldItem (v : PassView D) (x : T) : Type 0 where
+  -- this item was put and not yet taken
+  pub record IsLeft (v : PassView D) (x : T) : Type 0 where
     pub rest : List T
-    pub knows : Knows v (x ∷ rest)
+    pub left : AreLeft v (x ∷ rest)
 
 -- what the pass knows
 abbrev pub pass_view : {T D : Type 0} → PassOver (queue.Pass (Cargo T D) (PassView D)) → PassView D

@@ -9,7 +9,7 @@ use Rattle.pool_core.specs.declared.view.Cargo.TheVariants.{Start, Item}
 use Rattle.pool_core.specs.declared.view.Stage.{Stage}
 use Rattle.pool_core.specs.declared.view.Stage.TheVariants.{Fresh, Loaded, Open}
 use Rattle.pool_core.specs.declared.view.PassView.{PassView}
-use Rattle.pool_core.specs.Pass.{with_put, with_taken, HeldItem, Knows}
+use Rattle.pool_core.specs.Pass.{FitsStage, with_put, with_taken, AreLeft, IsWhole}
 
 module _ {D : Type 0} where
   -- the first pass of a queue that holds nothing, before the lane is made
@@ -57,17 +57,28 @@ module _ {T D : Type 0} (entry : T → ℕ × ℕ) (fits : D → T → Type 0) w
     pub each : (id : ℕ) (v : PassView D) → get_elem? views id ≡ some v → FitsView stage home out id v
     pub holds : Holds fits stage out cargo
 
+  -- what a step tells of the items that the queue holds: each fits the data, and a whole pass knows them
+  -- by what was put and taken
+  pub record Knows (v : PassView D) (items : List T) : Type 0 where
+    pub fit : All (FitsStage fits v.stage) items
+    pub whole : IsWhole v → AreLeft entry fits v items
+
+  -- the queue held this item, and these others
+  pub record HeldItem (v : PassView D) (x : T) : Type 0 where
+    pub rest : List T
+    pub knows : Knows v (x ∷ rest)
+
   -- the item went in
   abbrev pub Puts : PassView D → Cargo T D → PassView D → Type 0
   Puts v c w = (x : T) × (c ≡ Item x) × (w ≡ with_put (entry x) v)
 
   -- an item came out, and what the call tells of it
   abbrev pub Takes : PassView D → Cargo T D → PassView D → Type 0
-  Takes v c w = (x : T) × (c ≡ Item x) × (w ≡ with_taken (entry x) v) × HeldItem entry fits v x
+  Takes v c w = (x : T) × (c ≡ Item x) × (w ≡ with_taken (entry x) v) × HeldItem v x
 
   -- what a call learns of the queue
   abbrev pub Learns : PassView D → List (Cargo T D) → Type 0
-  Learns v cargo = (items : List T) × (cargo ≡ map Item items) × Knows entry fits v items
+  Learns v cargo = (items : List T) × (cargo ≡ map Item items) × Knows v items
 
   -- the data went in
   abbrev pub PutsData : PassView D → Cargo T D → PassView D → Type 0

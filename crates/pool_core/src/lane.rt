@@ -1,6 +1,6 @@
 // A lane and its passes.
 ghost use Rattle.std.specs.Prelude.{◌≡◌, ◌<◌, ◌↔◌, true, IfOk, OnOk, IfErr, OnErr, IfSome, IfNone, IsNone};
-ghost use Rattle.pool_core.specs.Pass.{lane_room, pass_view, IsLanePass, FitsStage, IsWhole, first_pass, with_put, with_taken, split_off, with_one_more_out, joined, HeldAtOnce, HeldItem};
+ghost use Rattle.pool_core.specs.Pass.{lane_room, pass_view, IsLanePass, FitsStage, IsWhole, first_pass, with_put, with_taken, split_off, with_one_more_out, joined, HasLeft, IsLeft};
 ghost use Rattle.pool_core.specs.Repeats.{SameElements};
 
 use crate::steps::{Load, OneLane, Open, Part, Put, Take};
@@ -78,8 +78,10 @@ impl<T: Numbered + Drop, R: LaneRule<T>> LaneOver<Bench<T, R>> {
         }
     }
 
-    /// Hands an item that fits the lane's data to whoever takes it. It comes back only where the lane
-    /// was full at one moment of the call. It takes no memory.
+    /// Hands an item that fits the lane's data to whoever takes it. With the whole pass it comes back
+    /// only where as many items as the lane has room for were put and not yet taken. With any other pass
+    /// it comes back where the lane is full at one moment of the call, of which no clause speaks. It
+    /// takes no memory.
     pub fn put<W: Wait>(&self, rt: &W, pass: &mut Pass<T, R>, item: T) -> Result<(), T>
         requires pass { IsLanePass self.now pass.old }
         requires fits { FitsStage R.fits (pass_view pass.old).stage item }
@@ -87,7 +89,7 @@ impl<T: Numbered + Drop, R: LaneRule<T>> LaneOver<Bench<T, R>> {
         ensures put { OnOk result (pass_view pass.new ≡ with_put (T.number_of item, T.tag item) (pass_view pass.old)) }
         ensures back { IfErr result (λ x. x ≡ item) }
         ensures same { OnErr result (pass_view pass.new ≡ pass_view pass.old) }
-        ensures full { OnErr result (HeldAtOnce (λ x. (T.number_of x, T.tag x)) R.fits (pass_view pass.old) (lane_room self.now)) }
+        ensures full { OnErr result (IsWhole (pass_view pass.old) → HasLeft (λ x. (T.number_of x, T.tag x)) R.fits (pass_view pass.old) (lane_room self.now)) }
     {
         match self
             .queue
@@ -99,16 +101,16 @@ impl<T: Numbered + Drop, R: LaneRule<T>> LaneOver<Bench<T, R>> {
         }
     }
 
-    /// An item, the oldest first, which fits the lane's data. `None` only where the lane was empty at one moment
-    /// of the call; with the whole pass exactly where all that was put was taken. It takes no memory.
+    /// An item, the oldest first, which fits the lane's data. With the whole pass it was put and not yet
+    /// taken, and `None` comes exactly where all that was put was taken. With any other pass `None` comes
+    /// where the lane is empty at one moment of the call, of which no clause speaks. It takes no memory.
     pub fn take<W: Wait>(&self, rt: &W, pass: &mut Pass<T, R>) -> Option<T>
         requires pass { IsLanePass self.now pass.old }
         ensures pass { IsLanePass self.now pass.new }
         ensures fits { IfSome result (λ x. FitsStage R.fits (pass_view pass.old).stage x) }
         ensures taken { IfSome result (λ x. pass_view pass.new ≡ with_taken (T.number_of x, T.tag x) (pass_view pass.old)) }
-        ensures held { IfSome result (λ x. HeldItem (λ x. (T.number_of x, T.tag x)) R.fits (pass_view pass.old) x) }
+        ensures left { IfSome result (λ x. IsWhole (pass_view pass.old) → IsLeft (λ x. (T.number_of x, T.tag x)) R.fits (pass_view pass.old) x) }
         ensures same { IfNone result (pass_view pass.new ≡ pass_view pass.old) }
-        ensures empty { IfNone result (HeldAtOnce (λ x. (T.number_of x, T.tag x)) R.fits (pass_view pass.old) 0) }
         ensures whole { IsWhole (pass_view pass.old) → (IsNone result ↔ SameElements (pass_view pass.old).put (pass_view pass.old).taken) }
     {
         match self.queue.pop_as::<Take<T, R>, W>(rt, &mut pass.pass) {

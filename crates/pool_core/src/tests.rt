@@ -10,39 +10,30 @@ use std::sync::{Arc, Wait};
 use std::thread;
 use std::thread::{Promise, PromisedHandle, Threads};
 
+// The book of a pool of 1 to 4 workers.
+fn book_of(spawned: u32, waiting: u32, backlog: u32) -> PoolBook
+    requires { (waiting ≤ spawned) × (spawned ≤ 4) }
+{
+    PoolBook {
+        min: 1,
+        max: 4,
+        spawned,
+        waiting,
+        backlog,
+        connections: 1,
+        requests: 0,
+    }
+}
+
 #[test]
 fn decides_and_counts(rt: HostRuntime) {
-    let lone = PoolBook {
-        min: 1,
-        max: 4,
-        spawned: 1,
-        waiting: 0,
-        backlog: 1,
-        connections: 1,
-        requests: 0,
-    };
+    let lone = book_of(1, 0, 1);
     assert_eq!(rt; lone.decide(), Size::More);
     assert_eq!(rt; lone.capacity(), 3);
-    let idle = PoolBook {
-        min: 1,
-        max: 4,
-        spawned: 2,
-        waiting: 1,
-        backlog: 0,
-        connections: 1,
-        requests: 0,
-    };
+    let idle = book_of(2, 1, 0);
     assert_eq!(rt; idle.decide(), Size::Trim);
     assert_eq!(rt; idle.capacity(), 3);
-    let full = PoolBook {
-        min: 1,
-        max: 4,
-        spawned: 4,
-        waiting: 1,
-        backlog: 2,
-        connections: 5,
-        requests: 9,
-    };
+    let full = book_of(4, 1, 2);
     assert_eq!(rt; full.decide(), Size::Stay);
     assert_eq!(rt; full.capacity(), 1);
 }

@@ -51,5 +51,6 @@ fn report(runtime: &impl Eprint, status: &Status) -> io::Result<()> {
         Status::Stack { line, rule } => eprintln!(runtime; "puma: stack line {line} S{rule}"),
         Status::SourceFault => runtime.eprintln("puma: read failed"),
         Status::SinkFault => runtime.eprintln("puma: write failed"),
+        Status::TooLong => runtime.eprintln("puma: input too long"),
     }
 }

@@ -1,4 +1,5 @@
-pub mod OnceLemmas
+pub mod LawLemmas
+pub mod DriveLemmas
+pub mod ServeLemmas
 pub mod QuietLemmas
-pub mod ReplyLemmas
 pub mod StackLemmas

@@ -1,45 +1,42 @@
 -- What follows of a command from what its parts did.
-use Rattle.std.proofs.Common.{◌≡◌, ℕ, ◌+◌, ◌<◌, ◌≤◌, inl, inr, List, [], ◌∷◌, ◌++◌, length, Option, None, Some, ap, sym, ◌∙◌, refl, subst, arith, length-append}
+use Rattle.std.proofs.Common.{◌≡◌, ℕ, ◌+◌, ◌<◌, ◌≤◌, ◌⊎◌, inl, inr, List, [], ◌∷◌, ◌++◌, length, Option, None, Some, Ok, ap, sym, ◌∙◌, refl, subst, arith, length-append}
 use Rattle.std.proofs.lemmas.List.{append_cancel_left}
 use Rattle.rack_outside.specs.declared.files.FileRead.{FileRead}
 use Rattle.rack_outside.specs.declared.files.FileRead.TheVariants as read
-use Rattle.rack_outside.specs.Told.{Appends}
-use Rattle.rack_outside.specs.Files.{AnswersFrom}
+use Rattle.rack_outside.specs.Told.{appended}
+use Rattle.rack_outside.specs.Files.{Shelf, Answers, AnswersFrom}
 use Rattle.rack_outside.specs.Source.{IsPrefix}
 use Rattle.puma_top.specs.Seen.{FileReads, FilesSeen, Seen}
-use Rattle.puma_top.specs.Words.{Command, once}
-use Rattle.puma_top.specs.Stack.{stack_limit, Endpoint, IsStack, IsNoStack}
-use Rattle.puma_top.specs.OnceSteps.{Ends}
+use Rattle.puma_top.specs.Words.{Command}
+use Rattle.stock_apps.specs.declared.app.App.{App}
+use Rattle.puma_top.specs.Stack.{stack_limit, IsStack, IsNoStack}
+use Rattle.puma_top.specs.OnceSteps.{Serves}
 use Rattle.puma_top.specs.Status.{UnlessNoMemory, OnUsage}
 use Rattle.puma_top.specs.Quiet.{ReadStack, IsGoodStack, IsReady, NoFault, Ran}
 use Rattle.puma_top.specs.QuietSteps.{Did}
-use Rattle.puma_top.specs.declared.status.FileWhy.{FileWhy}
 use Rattle.puma_top.specs.declared.status.FileWhy.TheVariants as why
 use Rattle.puma_top.specs.declared.status.Status.{Status}
 use Rattle.puma_top.specs.declared.status.Status.TheVariants as status
 
 -- a connection that was served by a stack
-pub served : (s : Status) (command : Option Command) (endpoint : Endpoint) (old new : Seen) → IsGoodStack command endpoint old.files new.files
-    → Ends s endpoint old.source.given new.source.given new.source.input old.source.faults new.source.faults
-    old.sink.written new.sink.written old.sink.faults new.sink.faults
-    → Did s command old new
-served status.Done command endpoint old new stack h = record { endpoint = endpoint; stack = stack; answered = h }
-served status.NoMemory command endpoint old new stack (inl h) = ((stack.was.name, stack.was.named), inl h)
-served status.NoMemory command endpoint old new stack (inr h) =
-    ((stack.was.name, stack.was.named), inr (record { endpoint = endpoint; stack = stack; answered = h }))
-served status.Usage command endpoint old new stack h = absurd h
-served (status.File y) command endpoint old new stack h = absurd h
-served (status.Stack line rule) command endpoint old new stack h = absurd h
-served status.SourceFault command endpoint old new stack h =
-    record { endpoint = endpoint; stack = stack; rose = h.1; waits = h.0; unwritten = h.2 }
-served status.SinkFault command endpoint old new stack h =
-    record { rose = h.0; part = record { endpoint = endpoint; stack = stack; answered = h.1 } }
+pub served : (s : Status) (command : Option Command) (app : App) (old new : Seen) → IsGoodStack command app old.files new.files
+    → Serves s app old.source old.sink new.source new.sink → Did s command old new
+served status.Done command app old new stack h = record { app = app; stack = stack; served = h }
+served status.NoMemory command app old new stack (inl h) = ((stack.was.name, stack.was.named), inl h)
+served status.NoMemory command app old new stack (inr h) =
+    ((stack.was.name, stack.was.named), inr (record { app = app; stack = stack; served = h }))
+served status.Usage command app old new stack h = absurd h
+served (status.File y) command app old new stack h = absurd h
+served (status.Stack line rule) command app old new stack h = absurd h
+served status.SourceFault command app old new stack h = record { app = app; stack = stack; rose = h.0; served = h.1 }
+served status.SinkFault command app old new stack h = record { app = app; stack = stack; rose = h.0; served = h.1 }
+served status.TooLong command app old new stack h = record { app = app; stack = stack; served = h }
 
 -- the last read that was noted, told twice
-one_note : (noted notes : Option FileReads) (before : FileReads) (x y : List ℕ × FileRead) → noted ≡ Some before → Appends noted notes (x ∷ [])
+one_note : (noted notes : Option FileReads) (before : FileReads) (x y : List ℕ × FileRead) → noted ≡ Some before → notes ≡ appended noted (x ∷ [])
     → notes ≡ Some (before ++ (y ∷ [])) → x ≡ y
 one_note noted notes before x y old adds new =
-    let both : Some (before ++ (x ∷ [])) ≡ Some (before ++ (y ∷ [])) = sym (adds before old) ∙ new in
+    let both : Some (before ++ (x ∷ [])) ≡ Some (before ++ (y ∷ [])) = sym (adds ∙ ap (λ (n : Option FileReads). appended n (x ∷ [])) old) ∙ new in
     let lists : before ++ (x ∷ []) ≡ before ++ (y ∷ []) = cc in
     let ends : x ∷ [] ≡ y ∷ [] = append_cancel_left before (x ∷ []) (y ∷ []) lists in
     cc
@@ -53,11 +50,15 @@ noted_answer : (command : Option Command) (answer : FileRead) (old new : FilesSe
 noted_answer command answer old new name text before was is then =
     ap (λ (p : List ℕ × FileRead). p.1) (one_note old.texts new.texts before (was.name, answer) (name, read.Text text) is was.was.noting then)
 
-no_stack_here : (command : Option Command) (endpoint : Endpoint) (old new : FilesSeen) (name text : List ℕ) (before : FileReads)
-    → IsGoodStack command endpoint old new → old.texts ≡ Some before → new.texts ≡ Some (before ++ ((name, read.Text text) ∷ [])) → IsNoStack text → ⊥
-no_stack_here command endpoint old new name text before stack is then bad =
+-- no text is a stack and none
+stack_and_none : (text : List ℕ) (app : App) → IsStack text app → IsNoStack text → ⊥
+stack_and_none text app is none = let both : Some app ≡ None = sym is ∙ none in cc
+
+no_stack_here : (command : Option Command) (app : App) (old new : FilesSeen) (name text : List ℕ) (before : FileReads)
+    → IsGoodStack command app old new → old.texts ≡ Some before → new.texts ≡ Some (before ++ ((name, read.Text text) ∷ [])) → IsNoStack text → ⊥
+no_stack_here command app old new name text before stack is then bad =
     let same : stack.text ≡ text = same_text stack.text text (noted_answer command (read.Text stack.text) old new name text before stack.was is then) in
-    bad endpoint (subst (λ (w : List ℕ). IsStack w endpoint) same stack.good)
+    stack_and_none text app (subst (λ (w : List ℕ). IsStack w app) same stack.good) bad
 
 nothing_noted : (noted notes : Option FileReads) (before : FileReads) (x : List ℕ × FileRead) → notes ≡ noted → noted ≡ Some before → notes ≡ Some (before ++ (x ∷ [])) → ⊥
 nothing_noted noted notes before x same old new =
@@ -71,7 +72,7 @@ bad_stack : (s : Status) (command : Option Command) (old new : Seen) → Did s c
     → (name text : List ℕ) (before : FileReads) → old.files.texts ≡ Some before
     → new.files.texts ≡ Some (before ++ ((name, read.Text text) ∷ [])) → IsNoStack text → UnlessNoMemory s (s ≡ status.Stack 1 0)
 bad_stack status.Done command old new did same name text before is then bad =
-    absurd (no_stack_here command did.endpoint old.files new.files name text before did.stack is then bad)
+    absurd (no_stack_here command did.app old.files new.files name text before did.stack is then bad)
 bad_stack status.NoMemory command old new did same name text before is then bad = tt
 bad_stack status.Usage command old new did same name text before is then bad =
     absurd (nothing_noted old.files.texts new.files.texts before (name, read.Text text) same is then)
@@ -87,9 +88,11 @@ bad_stack (status.File why.Failed) command old new did same name text before is 
 bad_stack (status.Stack line rule) command old new did same name text before is then bad =
     ap (λ n. status.Stack n rule) did.0 ∙ ap (λ n. status.Stack 1 n) did.1
 bad_stack status.SourceFault command old new did same name text before is then bad =
-    absurd (no_stack_here command did.endpoint old.files new.files name text before did.stack is then bad)
+    absurd (no_stack_here command did.app old.files new.files name text before did.stack is then bad)
 bad_stack status.SinkFault command old new did same name text before is then bad =
-    absurd (no_stack_here command did.part.endpoint old.files new.files name text before did.part.stack is then bad)
+    absurd (no_stack_here command did.app old.files new.files name text before did.stack is then bad)
+bad_stack status.TooLong command old new did same name text before is then bad =
+    absurd (no_stack_here command did.app old.files new.files name text before did.stack is then bad)
 
 -- words that are no command are Usage
 no_command : (s : Status) (command : Option Command) (old new : Seen) → Did s command old new → command ≡ None → s ≡ status.Usage
@@ -101,7 +104,8 @@ no_command (status.File why.Long) command old new did none = let named = did.nam
 no_command (status.File why.Failed) command old new did none = let named = did.0.named in absurd (cc)
 no_command (status.Stack line rule) command old new did none = let named = did.2.was.named in absurd (cc)
 no_command status.SourceFault command old new did none = let named = did.stack.was.named in absurd (cc)
-no_command status.SinkFault command old new did none = let named = did.part.stack.was.named in absurd (cc)
+no_command status.SinkFault command old new did none = let named = did.stack.was.named in absurd (cc)
+no_command status.TooLong command old new did none = let named = did.stack.was.named in absurd (cc)
 
 -- the answer of the file that the command names comes of its next text
 next_answer : (command : Option Command) (answer : FileRead) (old new : FilesSeen) (ready : IsReady command old) → ReadStack command answer old new
@@ -111,15 +115,17 @@ next_answer command answer old new ready was =
     let ready_named = ready.named in
     let names : was.name ≡ ready.name = cc in
     let texts : ready.shelf was.name ≡ ready.text ∷ ready.more = ap ready.shelf names ∙ ready.next in
-    subst (λ (t : List (List ℕ)). AnswersFrom answer stack_limit t) texts (was.was.answers ready.shelf ready.tells).0
+    let told : Answers (Ok answer) was.name stack_limit (Some ready.shelf) new.holds =
+    subst (λ (h : Option Shelf). Answers (Ok answer) was.name stack_limit h new.holds) ready.tells was.was.answers in
+    subst (λ (t : List (List ℕ)). AnswersFrom answer stack_limit t) texts told.0
 
 first_of : (t u : List ℕ) (ts us : List (List ℕ)) → t ∷ ts ≡ u ∷ us → t ≡ u
 first_of t u ts us same = cc
 
--- with good words and a good stack the command is done, unless a count of faults rose
+-- with good words and a good stack the command is done, unless a count of faults rose or too many bytes came
 complete : (s : Status) (command : Option Command) (old new : Seen) → Did s command old new → IsReady command old.files → NoFault old new
-    → UnlessNoMemory s (s ≡ status.Done)
-complete status.Done command old new did ready calm = refl
+    → UnlessNoMemory s ((s ≡ status.Done) ⊎ (s ≡ status.TooLong))
+complete status.Done command old new did ready calm = inl refl
 complete status.NoMemory command old new did ready calm = tt
 complete status.Usage command old new did ready calm = let named = ready.named in absurd (cc)
 complete (status.File why.Absent) command old new did ready calm =
@@ -135,9 +141,10 @@ complete (status.File why.Failed) command old new did ready calm = absurd (calm.
 complete (status.Stack line rule) command old new did ready calm =
     let text = next_answer command (read.Text did.2.text) old.files new.files ready did.2.was in
     let same : ready.text ≡ did.2.text = first_of ready.text did.2.text ready.more text.1 text.2 in
-    absurd (did.2.bad ready.endpoint (subst (λ (w : List ℕ). IsStack w ready.endpoint) same ready.good))
+    absurd (stack_and_none did.2.text ready.app (subst (λ (w : List ℕ). IsStack w ready.app) same ready.good) did.2.bad)
 complete status.SourceFault command old new did ready calm = absurd (calm.source did.rose)
 complete status.SinkFault command old new did ready calm = absurd (calm.sink did.rose)
+complete status.TooLong command old new did ready calm = inr refl
 
 at : (s t : Status) (command : Option Command) (old new : Seen) → Did s command old new → s ≡ t → Did t command old new
 at s t command old new did is = subst (λ (x : Status). Did x command old new) is did
@@ -156,6 +163,7 @@ ran s command old new did untouched same prefix = record {
   source_fault = λ is. at s status.SourceFault command old new did is;
   sink_fault = λ is. at s status.SinkFault command old new did is;
   no_memory = λ is. (at s status.NoMemory command old new did is).1;
+  too_long = λ is. at s status.TooLong command old new did is;
   complete = complete s command old new did;
   same = same;
   prefix = prefix;
@@ -170,3 +178,4 @@ on_usage P Q (status.File y) then h = tt
 on_usage P Q (status.Stack line rule) then h = tt
 on_usage P Q status.SourceFault then h = tt
 on_usage P Q status.SinkFault then h = tt
+on_usage P Q status.TooLong then h = tt

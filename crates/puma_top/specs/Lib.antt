@@ -1,11 +1,10 @@
 pub mod Once
 pub mod OnceSteps
+pub mod Drive
 pub mod Quiet
 pub mod QuietSteps
-pub mod Reply
 pub mod Seen
-pub mod Served
 pub mod Stack
-pub mod StackLine
+pub mod StackSteps
 pub mod Status
 pub mod Words

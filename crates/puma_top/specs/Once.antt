@@ -1,62 +1,98 @@
--- What one connection's bytes are answered by, and how much of it was read and written.
-use Rattle.std.specs.Prelude.{◌≡◌, ℕ, ◌<◌, ◌≤◌, List, [], ◌++◌, length, take, Option}
-use Rattle.rack_types.specs.declared.fault.Fault.{Fault}
+-- What one connection is answered by the stack of one endpoint.
+use Rattle.std.specs.Prelude.{◌≡◌, ◌≢◌, ℕ, List, [], ◌∷◌, ◌++◌, None, codes, false, true, Some, ◌≤◌, length}
+use Rattle.rack_types.specs.declared.peer.Local.{Local}
+use Rattle.rack_outside.specs.Link.{Tells}
 use Rattle.rack_types.specs.Request.{Parts}
-use Rattle.rack_outside.specs.Told.{Appends}
-use Rattle.rack_outside.specs.Source.{IsWhole}
-use Rattle.message_framing.specs.Request.{Begins, Refusal, Wanting}
-use Rattle.reply_framing.specs.Fault.{fault_reply}
-use Rattle.puma_top.specs.Stack.{Endpoint}
-use Rattle.puma_top.specs.Served.{request_reply}
+use Rattle.hijack_core.specs.declared.never.Never.{Never}
+use Rattle.talk_core.specs.declared.ended.Life.{Life}
+use Rattle.talk_core.specs.Talk.{Stop, Talk, text}
+use Rattle.talk_core.specs.Teller.{Stacks, Teller, tell, fates_of}
+use Rattle.stock_apps.specs.declared.app.App.{App}
+use Rattle.stock_apps.specs.Answers.{app_answer}
+use Rattle.puma_top.specs.Seen.{SourceSeen, SinkSeen}
 
--- the first thing that stands in these bytes, a refusal or a request, is answered by what is
--- written; nothing is written where neither stands
-pub data First (endpoint : Endpoint) (bytes written : List ℕ) : Type 0 where
-  refused : (fault : Fault) → Refusal bytes fault → written ≡ fault_reply fault → First endpoint bytes written
-  request : (n : ℕ) (request : Parts) → Begins bytes n request → written ≡ request_reply endpoint request → First endpoint bytes written
-  wanting : Wanting bytes → written ≡ [] → First endpoint bytes written
+-- whom the requests of the connection come from
+abbrev pub once_peer : List ℕ
+once_peer = codes "127.0.0.1"
 
--- the bytes that one read may give
-abbrev pub piece_limit : ℕ
-piece_limit = 16384
+-- the server's own end of it
+abbrev pub once_local : Local
+once_local = record { name = codes "localhost"; port = 9292; https = false; hijack = true }
 
--- these bytes are some in which nothing stood, and behind them no more than one read may give
-pub record Stops (bytes : List ℕ) : Type 0 where
-  pub before : List ℕ
-  pub piece : List ℕ
-  pub parts : bytes ≡ before ++ piece
-  pub short : length piece ≤ piece_limit
-  pub wanting : Wanting before
+-- the stack of this endpoint, in each phase
+abbrev pub stacks_of : App → Stacks Never
+stacks_of app phase = app_answer app
 
--- a read failed while nothing stood in what was given
-pub record BreaksOff (old new : Option (List ℕ)) : Type 0 where
-  pub bytes : List ℕ
-  pub given : Appends old new bytes
-  pub wanting : Wanting bytes
+-- the one life of the connection
+abbrev pub once_lives : List Life
+once_lives = record { first = 0; phase = 0 } ∷ []
 
--- a part of the text was written, and not all of it
-pub record WritesPart (text : List ℕ) (old new : Option (List ℕ)) : Type 0 where
-  pub count : ℕ
-  pub less : count < length text
-  pub written : Appends old new (take count text)
+-- the replies to its requests
+abbrev pub teller_of : App → Teller Never
+teller_of app = tell (stacks_of app) once_lives once_local once_peer None
 
--- the first thing that stands in what was given is answered by what was written; no more was read behind
--- bytes in which nothing stood than one read may give, and either something was written or the input was
--- read to its end
-pub record Answered (endpoint : Endpoint) (given_old given_new input written_old written_new : Option (List ℕ)) : Type 0 where
-  pub bytes : List ℕ
-  pub text : List ℕ
-  pub given : Appends given_old given_new bytes
-  pub written : Appends written_old written_new text
-  pub first : First endpoint bytes text
-  pub stops : Stops bytes
-  pub ends : text ≡ [] → IsWhole given_new input
+-- these bytes were answered whole: that is the text of the talk on them
+pub record AnsweredAll (app : App) (bytes written : List ℕ) : Type 0 where
+  pub asked : List Parts
+  pub stop : Stop
+  pub rest : List ℕ
+  pub talk : Talk (fates_of (teller_of app)) bytes asked stop rest
+  pub said : written ≡ text (teller_of app) asked stop
 
--- the same, with a part of the answer written, and not all of it
-pub record AnsweredInPart (endpoint : Endpoint) (given_old given_new written_old written_new : Option (List ℕ)) : Type 0 where
-  pub bytes : List ℕ
-  pub text : List ℕ
-  pub given : Appends given_old given_new bytes
-  pub first : First endpoint bytes text
-  pub stops : Stops bytes
-  pub part : WritesPart text written_old written_new
+-- what was written begins the text of the talk on these bytes
+abbrev pub AnsweredInPart : App → List ℕ → List ℕ → Type 0
+AnsweredInPart app bytes written =
+    (asked : List Parts) (stop : Stop) (rest : List ℕ) → Talk (fates_of (teller_of app)) bytes asked stop rest
+    → (more : List ℕ) × (text (teller_of app) asked stop ≡ written ++ more)
+
+-- the same, and it is not all of it
+abbrev pub AnsweredLess : App → List ℕ → List ℕ → Type 0
+AnsweredLess app bytes written =
+    (asked : List Parts) (stop : Stop) (rest : List ℕ) → Talk (fates_of (teller_of app)) bytes asked stop rest
+    → (more : List ℕ) × (text (teller_of app) asked stop ≡ written ++ more) × (more ≢ [])
+
+-- the bytes that one connection may give
+abbrev pub most_taken : ℕ
+most_taken = 1099511627776
+
+-- these bytes were given and those were written, where the source and the sink tell it
+pub record Told (source : SourceSeen) (sink : SinkSeen) (given written : List ℕ) : Type 0 where
+  pub given_is : Tells source.given given
+  pub written_is : Tells sink.written written
+
+-- all that was given was answered, and, where the source tells its input and what it gave, all of that
+pub record ServedAll (app : App) (source : SourceSeen) (sink : SinkSeen) : Type 0 where
+  pub given : List ℕ
+  pub written : List ℕ
+  pub told : Told source sink given written
+  pub answered : AnsweredAll app given written
+  pub whole : (input : List ℕ) → source.given ≡ Some given → source.input ≡ Some input → AnsweredAll app input written
+
+-- all that was given was answered
+pub record ServedGiven (app : App) (source : SourceSeen) (sink : SinkSeen) : Type 0 where
+  pub given : List ℕ
+  pub written : List ℕ
+  pub told : Told source sink given written
+  pub answered : AnsweredAll app given written
+
+-- a front of the answer was written
+pub record ServedPart (app : App) (source : SourceSeen) (sink : SinkSeen) : Type 0 where
+  pub given : List ℕ
+  pub written : List ℕ
+  pub told : Told source sink given written
+  pub begins : AnsweredInPart app given written
+
+-- a front of the answer was written, and not all of it
+pub record ServedLess (app : App) (source : SourceSeen) (sink : SinkSeen) : Type 0 where
+  pub given : List ℕ
+  pub written : List ℕ
+  pub told : Told source sink given written
+  pub begins : AnsweredLess app given written
+
+-- a front of the answer was written, and no more is taken
+pub record ServedLong (app : App) (source : SourceSeen) (sink : SinkSeen) : Type 0 where
+  pub given : List ℕ
+  pub written : List ℕ
+  pub told : Told source sink given written
+  pub begins : AnsweredInPart app given written
+  pub long : most_taken ≤ length given

@@ -1,94 +1,58 @@
--- The steps in which one connection is served. This serves inner contracts alone.
-use Rattle.std.specs.Prelude.{◌≡◌, ℕ, ◌⊎◌, true, false, List, Option, None, Result, Ok, Err, ⊤}
-use Rattle.rack_types.specs.Env.{Environment}
-use Rattle.rack_types.specs.Request.{Parts}
-use Rattle.rack_types.specs.Rules.{broken_env_rule}
-use Rattle.rack_env.specs.Environment.{environment}
-use Rattle.rack_outside.specs.Told.{Rose, Appends}
-use Rattle.rack_outside.specs.Source.{IsWhole}
-use Rattle.message_framing.specs.Request.{Begins, Refusal, Wanting}
-use Rattle.puma_top.specs.Stack.{Endpoint}
-use Rattle.puma_top.specs.Served.{is_served, once_peer, once_local}
-use Rattle.puma_top.specs.Once.{Stops, BreaksOff, WritesPart, Answered, AnsweredInPart}
+-- How one connection ends, by its status. This serves inner contracts alone.
+use Rattle.std.specs.Prelude.{◌≡◌, ◌⊎◌, ⊤}
+use Rattle.rack_outside.specs.Link.{Seen}
+use Rattle.rack_outside.specs.Told.{Rose}
+use Rattle.talk_core.specs.declared.ended.Why.{Why}
+use Rattle.talk_core.specs.declared.ended.Why.TheVariants as why
+use Rattle.stock_apps.specs.declared.app.App.{App}
+use Rattle.puma_top.specs.Once.{ServedAll, ServedGiven, ServedPart, ServedLess, ServedLong}
+use Rattle.puma_top.specs.Seen.{SourceSeen, SinkSeen}
 use Rattle.puma_top.specs.declared.status.Status.{Status}
-use Rattle.puma_top.specs.declared.status.Status.TheVariants.{Done, NoMemory, Usage, File, Stack, SourceFault, SinkFault}
-use Rattle.puma_top.specs.declared.once.Came.{Came}
-use Rattle.puma_top.specs.declared.once.Came.TheVariants.{Asked, Unbuilt, Refused, Nothing}
+use Rattle.puma_top.specs.declared.status.Status.TheVariants.{Done, NoMemory, Usage, File, Stack, SourceFault, SinkFault, TooLong}
 
--- the environment of this request, whole; it breaks no rule
-pub record IsEnvironmentOf (env : Environment) (request : Parts) : Type 0 where
-  pub whole : env ≡ environment request once_peer once_local
-  pub rules : broken_env_rule env.pairs ≡ None
+abbrev pub Serves : Status → App → SourceSeen → SinkSeen → SourceSeen → SinkSeen → Type 0
+Serves Done app source sink source_then sink_then = ServedAll app source_then sink_then
+Serves NoMemory app source sink source_then sink_then =
+    (sink_then.written ≡ sink.written) ⊎ ServedPart app source_then sink_then
+Serves Usage app source sink source_then sink_then = ⊥
+Serves (File why) app source sink source_then sink_then = ⊥
+Serves (Stack line rule) app source sink source_then sink_then = ⊥
+Serves SourceFault app source sink source_then sink_then =
+    Rose source.faults source_then.faults × ServedGiven app source_then sink_then
+Serves SinkFault app source sink source_then sink_then = Rose sink.faults sink_then.faults × ServedLess app source_then sink_then
+Serves TooLong app source sink source_then sink_then = ServedLong app source_then sink_then
 
--- what stands in these bytes: of a request that is served, its environment
-abbrev pub Stands : Came → List ℕ → Type 0
-Stands (Asked env) bytes =
-    (n : ℕ) × (request : Parts) × Begins bytes n request × (is_served request ≡ true) × IsEnvironmentOf env request
-Stands Unbuilt bytes = (n : ℕ) × (request : Parts) × Begins bytes n request × (is_served request ≡ false)
-Stands (Refused fault) bytes = Refusal bytes fault
-Stands Nothing bytes = Wanting bytes
+-- nobody drains, halts or times this connection, and no hijacker takes it over
+abbrev pub IsOfOnce : Why → Type 0
+IsOfOnce why.Closed = ⊤
+IsOfOnce why.PeerEnd = ⊤
+IsOfOnce (why.Idle by) = ⊥
+IsOfOnce (why.TimedOut since now) = ⊥
+IsOfOnce (why.Stalled since now) = ⊥
+IsOfOnce (why.Unread level) = ⊥
+IsOfOnce why.ReadFailed = ⊤
+IsOfOnce why.WriteFailed = ⊤
+IsOfOnce (why.Halted level) = ⊥
+IsOfOnce why.NoMemory = ⊤
+IsOfOnce why.Hijacked = ⊥
 
--- the input was read to its end, where nothing stands
-abbrev pub EndsIfNothing : Came → Option (List ℕ) → Option (List ℕ) → Type 0
-EndsIfNothing (Asked env) given input = ⊤
-EndsIfNothing Unbuilt given input = ⊤
-EndsIfNothing (Refused fault) given input = ⊤
-EndsIfNothing Nothing given input = IsWhole given input
+-- the status of a connection that ended so
+abbrev pub status_by : Why → Status
+status_by why.Closed = Done
+status_by why.PeerEnd = Done
+status_by (why.Idle by) = Done
+status_by (why.TimedOut since now) = Done
+status_by (why.Stalled since now) = Done
+status_by (why.Unread level) = Done
+status_by why.ReadFailed = SourceFault
+status_by why.WriteFailed = SinkFault
+status_by (why.Halted level) = Done
+status_by why.NoMemory = NoMemory
+status_by why.Hijacked = Done
 
--- what was read, and what stands in it
-pub record Arrives (came : Came) (old new input : Option (List ℕ)) : Type 0 where
-  pub bytes : List ℕ
-  pub given : Appends old new bytes
-  pub stops : Stops bytes
-  pub stands : Stands came bytes
-  pub ends : EndsIfNothing came new input
+-- what a link shows of where its bytes come from, and of where they go
+abbrev pub source_of : Seen → SourceSeen
+source_of s = record { input = s.input; given = s.given; faults = s.failed_reads }
 
--- a whole request was looked at, and its environment made
-abbrev pub Admits : Result Came Status → Parts → Type 0
-Admits (Ok (Asked env)) r = (is_served r ≡ true) × IsEnvironmentOf env r
-Admits (Ok Unbuilt) r = is_served r ≡ false
-Admits (Ok (Refused fault)) r = ⊥
-Admits (Ok Nothing) r = ⊥
-Admits (Err Done) r = ⊥
-Admits (Err NoMemory) r = ⊤
-Admits (Err Usage) r = ⊥
-Admits (Err (File why)) r = ⊥
-Admits (Err (Stack line rule)) r = ⊥
-Admits (Err SourceFault) r = ⊥
-Admits (Err SinkFault) r = ⊥
-
--- reading until something stands
-abbrev pub TakesIn : Result Came Status → Option (List ℕ) → Option (List ℕ) → Option (List ℕ) → ℕ → ℕ → Type 0
-TakesIn (Ok came) old new input before after = Arrives came old new input
-TakesIn (Err Done) old new input before after = ⊥
-TakesIn (Err NoMemory) old new input before after = ⊤
-TakesIn (Err Usage) old new input before after = ⊥
-TakesIn (Err (File why)) old new input before after = ⊥
-TakesIn (Err (Stack line rule)) old new input before after = ⊥
-TakesIn (Err SourceFault) old new input before after = BreaksOff old new × Rose before after
-TakesIn (Err SinkFault) old new input before after = ⊥
-
--- writing a whole text
-abbrev pub Sends : Status → List ℕ → Option (List ℕ) → Option (List ℕ) → ℕ → ℕ → Type 0
-Sends Done text old new before after = Appends old new text
-Sends NoMemory text old new before after = WritesPart text old new
-Sends Usage text old new before after = ⊥
-Sends (File why) text old new before after = ⊥
-Sends (Stack line rule) text old new before after = ⊥
-Sends SourceFault text old new before after = ⊥
-Sends SinkFault text old new before after = WritesPart text old new × Rose before after
-
--- how one connection ends, by its status
-abbrev pub Ends : Status → Endpoint → Option (List ℕ) → Option (List ℕ) → Option (List ℕ) → ℕ → ℕ
-    → Option (List ℕ) → Option (List ℕ) → ℕ → ℕ → Type 0
-Ends Done endpoint given_old given_new input reads reads_then written_old written_new writes writes_then =
-    Answered endpoint given_old given_new input written_old written_new
-Ends NoMemory endpoint given_old given_new input reads reads_then written_old written_new writes writes_then =
-    (written_new ≡ written_old) ⊎ AnsweredInPart endpoint given_old given_new written_old written_new
-Ends Usage endpoint given_old given_new input reads reads_then written_old written_new writes writes_then = ⊥
-Ends (File why) endpoint given_old given_new input reads reads_then written_old written_new writes writes_then = ⊥
-Ends (Stack line rule) endpoint given_old given_new input reads reads_then written_old written_new writes writes_then = ⊥
-Ends SourceFault endpoint given_old given_new input reads reads_then written_old written_new writes writes_then =
-    BreaksOff given_old given_new × Rose reads reads_then × (written_new ≡ written_old)
-Ends SinkFault endpoint given_old given_new input reads reads_then written_old written_new writes writes_then =
-    Rose writes writes_then × AnsweredInPart endpoint given_old given_new written_old written_new
+abbrev pub sink_of : Seen → SinkSeen
+sink_of s = record { written = s.sent; faults = s.failed_writes }

@@ -7,13 +7,14 @@ use Rattle.rack_outside.specs.Files.{Shelf, Answers, Notes}
 use Rattle.rack_outside.specs.Source.{IsPrefix}
 use Rattle.puma_top.specs.Seen.{FileReads, FilesSeen, Seen}
 use Rattle.puma_top.specs.Words.{Command, once}
-use Rattle.puma_top.specs.Stack.{stack_limit, Endpoint, IsStack, IsNoStack}
-use Rattle.puma_top.specs.Once.{Answered, AnsweredInPart, BreaksOff}
+use Rattle.stock_apps.specs.declared.app.App.{App}
+use Rattle.puma_top.specs.Stack.{stack_limit, IsStack, IsNoStack}
+use Rattle.puma_top.specs.Once.{ServedAll, ServedGiven, ServedPart, ServedLess, ServedLong}
 use Rattle.puma_top.specs.Status.{UnlessNoMemory}
 use Rattle.puma_top.specs.declared.status.FileWhy.{FileWhy}
 use Rattle.puma_top.specs.declared.status.FileWhy.TheVariants.{Absent, Long, Failed}
 use Rattle.puma_top.specs.declared.status.Status.{Status}
-use Rattle.puma_top.specs.declared.status.Status.TheVariants.{Done, NoMemory, Usage, File, Stack, SourceFault, SinkFault}
+use Rattle.puma_top.specs.declared.status.Status.TheVariants.{Done, NoMemory, Usage, File, Stack, SourceFault, SinkFault, TooLong}
 
 -- the file of this name was read once, with that answer
 pub record ReadOnce (name : List ℕ) (answer : FileRead) (old new : FilesSeen) : Type 0 where
@@ -33,35 +34,42 @@ pub record IsBadStack (command : Option Command) (old new : FilesSeen) : Type 0 
   pub bad : IsNoStack text
 
 -- it is the stack that answers so
-pub record IsGoodStack (command : Option Command) (endpoint : Endpoint) (old new : FilesSeen) : Type 0 where
+pub record IsGoodStack (command : Option Command) (app : App) (old new : FilesSeen) : Type 0 where
   pub text : List ℕ
   pub was : ReadStack command (read.Text text) old new
-  pub good : IsStack text endpoint
+  pub good : IsStack text app
 
 -- the connection was answered, whole, by the stack that the command names
 pub record Served (command : Option Command) (old new : Seen) : Type 0 where
-  pub endpoint : Endpoint
-  pub stack : IsGoodStack command endpoint old.files new.files
-  pub answered : Answered endpoint old.source.given new.source.given new.source.input old.sink.written new.sink.written
+  pub app : App
+  pub stack : IsGoodStack command app old.files new.files
+  pub served : ServedAll app new.source new.sink
 
--- the same, with a part of the answer written, and not all of it
-pub record ServedInPart (command : Option Command) (old new : Seen) : Type 0 where
-  pub endpoint : Endpoint
-  pub stack : IsGoodStack command endpoint old.files new.files
-  pub answered : AnsweredInPart endpoint old.source.given new.source.given old.sink.written new.sink.written
-
--- a read of the connection failed while nothing stood in what came, and nothing was written
+-- a read of the connection failed, and all that came before was answered
 pub record CutOff (command : Option Command) (old new : Seen) : Type 0 where
-  pub endpoint : Endpoint
-  pub stack : IsGoodStack command endpoint old.files new.files
+  pub app : App
+  pub stack : IsGoodStack command app old.files new.files
   pub rose : Rose old.source.faults new.source.faults
-  pub waits : BreaksOff old.source.given new.source.given
-  pub unwritten : new.sink.written ≡ old.sink.written
+  pub served : ServedGiven app new.source new.sink
 
--- a write to the connection failed, in the middle of the answer
+-- a write to the connection failed, before all of the answer was written
 pub record WriteFailed (command : Option Command) (old new : Seen) : Type 0 where
+  pub app : App
+  pub stack : IsGoodStack command app old.files new.files
   pub rose : Rose old.sink.faults new.sink.faults
-  pub part : ServedInPart command old new
+  pub served : ServedLess app new.source new.sink
+
+-- a part of the answer was written
+pub record ServedInPart (command : Option Command) (old new : Seen) : Type 0 where
+  pub app : App
+  pub stack : IsGoodStack command app old.files new.files
+  pub served : ServedPart app new.source new.sink
+
+-- the connection gave more bytes than are taken
+pub record CutShort (command : Option Command) (old new : Seen) : Type 0 where
+  pub app : App
+  pub stack : IsGoodStack command app old.files new.files
+  pub served : ServedLong app new.source new.sink
 
 -- the stack file was not read, and why
 abbrev pub NotRead : FileWhy → Option Command → FilesSeen → FilesSeen → Type 0
@@ -75,12 +83,12 @@ pub record IsReady (command : Option Command) (old : FilesSeen) : Type 0 where
   pub shelf : Shelf
   pub text : List ℕ
   pub more : List (List ℕ)
-  pub endpoint : Endpoint
+  pub app : App
   pub named : command ≡ Some (once name)
   pub tells : old.holds ≡ Some shelf
   pub next : shelf name ≡ text ∷ more
   pub fits : length text ≤ stack_limit
-  pub good : IsStack text endpoint
+  pub good : IsStack text app
 
 -- no count of faults rose
 pub record NoFault (old new : Seen) : Type 0 where
@@ -101,14 +109,16 @@ pub record Ran (command : Option Command) (status : Status) (old new : Seen) : T
   -- a text that was read and is no stack is answered so
   pub bad_stack : (name text : List ℕ) (before : FileReads) → old.files.texts ≡ Some before
       → new.files.texts ≡ Some (before ++ ((name, read.Text text) ∷ [])) → IsNoStack text → UnlessNoMemory status (status ≡ Stack 1 0)
-  -- a read failed
+  -- a read failed, and all that came was answered
   pub source_fault : status ≡ SourceFault → CutOff command old new
-  -- a write failed
+  -- a write failed, and a part of the answer was written
   pub sink_fault : status ≡ SinkFault → WriteFailed command old new
   -- memory was refused: nothing was written, or a part of the answer
   pub no_memory : status ≡ NoMemory → (new.sink.written ≡ old.sink.written) ⊎ ServedInPart command old new
-  -- with good words and a good stack it is Done, unless a count of faults rose
-  pub complete : IsReady command old.files → NoFault old new → UnlessNoMemory status (status ≡ Done)
+  -- no more bytes are taken
+  pub too_long : status ≡ TooLong → CutShort command old new
+  -- with good words and a good stack it is Done, unless a count of faults rose or too many bytes came
+  pub complete : IsReady command old.files → NoFault old new → UnlessNoMemory status ((status ≡ Done) ⊎ (status ≡ TooLong))
   -- the source's input stays, and what came is a prefix of it
   pub same : new.source.input ≡ old.source.input
   pub prefix : IsPrefix old.source.given old.source.input → IsPrefix new.source.given new.source.input

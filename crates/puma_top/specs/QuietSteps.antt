@@ -4,9 +4,9 @@ use Rattle.rack_outside.specs.declared.files.FileRead.TheVariants as read
 use Rattle.rack_outside.specs.Files.{Shelf}
 use Rattle.puma_top.specs.Seen.{FileReads, FilesSeen, Seen}
 use Rattle.puma_top.specs.Words as words
-use Rattle.puma_top.specs.Quiet.{ReadOnce, NotRead, IsBadStack, Served, ServedInPart, CutOff, WriteFailed}
+use Rattle.puma_top.specs.Quiet.{ReadOnce, NotRead, IsBadStack, Served, ServedInPart, CutOff, WriteFailed, CutShort}
 use Rattle.puma_top.specs.declared.status.Status.{Status}
-use Rattle.puma_top.specs.declared.status.Status.TheVariants.{Done, NoMemory, Usage, File, Stack, SourceFault, SinkFault}
+use Rattle.puma_top.specs.declared.status.Status.TheVariants.{Done, NoMemory, Usage, File, Stack, SourceFault, SinkFault, TooLong}
 use Rattle.puma_top.specs.declared.words.Command.{Command}
 use Rattle.puma_top.specs.declared.words.Command.TheVariants.{Once}
 
@@ -28,6 +28,7 @@ Opens (Err (File why)) name old new = NotRead why (Some (words.once name)) old n
 Opens (Err (Stack line rule)) name old new = ⊥
 Opens (Err SourceFault) name old new = ⊥
 Opens (Err SinkFault) name old new = ⊥
+Opens (Err TooLong) name old new = ⊥
 
 -- what is known of a command that ended, by its status
 abbrev pub Did : Status → Option words.Command → Seen → Seen → Type 0
@@ -39,3 +40,4 @@ Did (File why) command old new = NotRead why command old.files new.files
 Did (Stack line rule) command old new = (line ≡ 1) × (rule ≡ 0) × IsBadStack command old.files new.files
 Did SourceFault command old new = CutOff command old new
 Did SinkFault command old new = WriteFailed command old new
+Did TooLong command old new = CutShort command old new

@@ -41,3 +41,10 @@ seen holds texts unread input given failed written unwritten files source sink =
   source = record { input = input source; given = given source; faults = failed source };
   sink = record { written = written sink; faults = unwritten sink };
 }
+
+-- what a source shows, and what a sink shows
+abbrev pub source_seen : {S : Type 0} → (S → Option (List ℕ)) → (S → Option (List ℕ)) → (S → ℕ) → S → SourceSeen
+source_seen input given faults source = record { input = input source; given = given source; faults = faults source }
+
+abbrev pub sink_seen : {K : Type 0} → (K → Option (List ℕ)) → (K → ℕ) → K → SinkSeen
+sink_seen written faults sink = record { written = written sink; faults = faults sink }

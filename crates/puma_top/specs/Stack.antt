@@ -1,39 +1,58 @@
--- The stack file.
-use Rattle.std.specs.Prelude.{◌≡◌, ◌≢◌, ℕ, ◌⊎◌, Bool, true, ◌&&◌, not, ◌==◌, nat_le, nat_lt, List, [], ◌∷◌, ◌++◌, length, codes, ⊤}
-use Rattle.std.specs.List.{list_all}
+-- The stack file: one line, `run` with the name of an endpoint and its arguments. This project's own.
+use Rattle.std.specs.Prelude.{◌≡◌, ℕ, ◌==◌, if◌then◌else◌, List, [], ◌∷◌, Option, None, Some, option_map, option_and_then, Result, Ok, Err, codes, bytes_eq}
+use Rattle.rack_text.specs.Escaped.{unescaped}
+use Rattle.stock_apps.specs.declared.app.App.{App}
+use Rattle.stock_apps.specs.declared.words.WordsFault.{WordsFault}
+use Rattle.stock_apps.specs.Words.{app_of}
 
 -- the bytes that a stack file may have
 abbrev pub stack_limit : ℕ
 stack_limit = 65536
 
--- a byte of a word: visible ASCII, and no `\`
-abbrev pub is_word_byte : ℕ → Bool
-is_word_byte b = nat_le 33 b && nat_le b 126 && not (b == 92)
+-- a byte before the first of these words
+abbrev pub in_front : ℕ → List (List ℕ) → List (List ℕ)
+in_front b [] = (b ∷ []) ∷ []
+in_front b (word ∷ words) = (b ∷ word) ∷ words
 
--- a word: one or more such bytes
-abbrev pub is_word : List ℕ → Bool
-is_word word = nat_lt 0 (length word) && list_all is_word_byte word
+-- what stands between the spaces, and before the first and behind the last of them: one word or more, which may be
+-- empty
+abbrev pub words_of : List ℕ → List (List ℕ)
+words_of [] = [] ∷ []
+words_of (b ∷ bytes) = if b == 32 then [] ∷ words_of bytes else in_front b (words_of bytes)
 
--- what a stack answers to each request
-pub data Endpoint : Type 0 where
-  text : List ℕ → List ℕ → Endpoint  -- 200, with this content type and this body
-  echo : Endpoint  -- 200, `text/plain`, with the request's body
+-- the text without a line feed at its end, if one is there
+abbrev pub line_of : List ℕ → List ℕ
+line_of [] = []
+line_of (b ∷ []) = if b == 10 then [] else b ∷ []
+line_of (b ∷ c ∷ bytes) = b ∷ line_of (c ∷ bytes)
 
--- the line of a stack: its words, one space between each two
-abbrev pub stack_line : Endpoint → List ℕ
-stack_line (text kind body) = codes "run text 200 " ++ (kind ++ (32 ∷ body))
-stack_line echo = codes "run echo"
+-- a text before others, where all are there
+abbrev pub with_text : Option (List ℕ) → Option (List (List ℕ)) → Option (List (List ℕ))
+with_text None texts = None
+with_text (Some text) texts = option_map (λ more. text ∷ more) texts
 
--- what the line lets the file choose are words
-abbrev pub HasWords : Endpoint → Type 0
-HasWords (text kind body) = (is_word kind ≡ true) × (is_word body ≡ true)
-HasWords echo = ⊤
+-- the texts that escaped texts are of, where each is one
+abbrev pub texts_of : List (List ℕ) → Option (List (List ℕ))
+texts_of [] = Some []
+texts_of (word ∷ words) = with_text (unescaped word) (texts_of words)
 
--- the file's text is the line of this stack, with at most one line feed behind it
-abbrev pub IsStack : List ℕ → Endpoint → Type 0
-IsStack file endpoint =
-    HasWords endpoint × ((file ≡ stack_line endpoint) ⊎ (file ≡ stack_line endpoint ++ (10 ∷ [])))
+-- the endpoint, where the name and its arguments say one
+abbrev pub good : Result App WordsFault → Option App
+good (Ok app) = Some app
+good (Err fault) = None
 
--- the file's text is no such line
+abbrev pub stack_by : List (List ℕ) → Option App
+stack_by [] = None
+stack_by (verb ∷ []) = None
+stack_by (verb ∷ name ∷ arguments) =
+    if bytes_eq verb (codes "run") then option_and_then (λ texts. good (app_of name texts)) (texts_of arguments) else None
+
+-- the endpoint that a stack file runs, none where it is no stack
+abbrev pub stack_of : List ℕ → Option App
+stack_of text = stack_by (words_of (line_of text))
+
+abbrev pub IsStack : List ℕ → App → Type 0
+IsStack text app = stack_of text ≡ Some app
+
 abbrev pub IsNoStack : List ℕ → Type 0
-IsNoStack file = (endpoint : Endpoint) → ¬ (IsStack file endpoint)
+IsNoStack text = stack_of text ≡ None

@@ -1,7 +1,7 @@
 -- How a command ends.
 use Rattle.std.specs.Prelude.{ℕ, ⊤}
 use Rattle.puma_top.specs.declared.status.Status.{Status}
-use Rattle.puma_top.specs.declared.status.Status.TheVariants.{Done, NoMemory, Usage, File, Stack, SourceFault, SinkFault}
+use Rattle.puma_top.specs.declared.status.Status.TheVariants.{Done, NoMemory, Usage, File, Stack, SourceFault, SinkFault, TooLong}
 
 -- the exit status of the program
 abbrev pub exit_code : Status → ℕ
@@ -12,6 +12,7 @@ exit_code (File why) = 3
 exit_code (Stack line rule) = 4
 exit_code SourceFault = 6
 exit_code SinkFault = 7
+exit_code TooLong = 9
 
 -- the fact, unless memory was refused
 abbrev pub UnlessNoMemory : Status → Type 0 → Type 0
@@ -22,6 +23,7 @@ UnlessNoMemory (File why) P = P
 UnlessNoMemory (Stack line rule) P = P
 UnlessNoMemory SourceFault P = P
 UnlessNoMemory SinkFault P = P
+UnlessNoMemory TooLong P = P
 
 -- the fact, where the words are no command
 abbrev pub OnUsage : Status → Type 0 → Type 0
@@ -32,6 +34,7 @@ OnUsage (File why) P = ⊤
 OnUsage (Stack line rule) P = ⊤
 OnUsage SourceFault P = ⊤
 OnUsage SinkFault P = ⊤
+OnUsage TooLong P = ⊤
 
 -- the fact, where the connection was not begun: the words, the file or the stack is at fault
 abbrev pub OnUnread : Status → Type 0 → Type 0
@@ -42,3 +45,4 @@ OnUnread (File why) P = P
 OnUnread (Stack line rule) P = P
 OnUnread SourceFault P = ⊤
 OnUnread SinkFault P = ⊤
+OnUnread TooLong P = ⊤

@@ -1,129 +1,118 @@
-// One connection: what comes is read, and the first thing that stands in it is answered.
-ghost use Rattle.std.specs.Prelude.{◌≡◌, ℕ, List, IfOk, vec_len};
-ghost use Rattle.rack_types.specs.Request.{Parts};
-ghost use Rattle.message_framing.specs.Intake.{Fed};
-ghost use Rattle.message_framing.specs.Request.{IsRequest};
-ghost use Rattle.rack_outside.specs.Source.{IsPrefix};
-ghost use Rattle.puma_top.specs.StackLine.{endpoint_of};
-ghost use Rattle.puma_top.specs.OnceSteps.{Ends, Admits, TakesIn, Sends};
+// One connection from a source to a sink, from its first byte to its end.
+ghost use Rattle.std.specs.Prelude.{◌≡◌, [], Bool, true, false, Some};
+ghost use Rattle.rack_outside.specs.Link.{Tells};
+ghost use Rattle.rack_outside.specs.Source.{IsPrefix, IsFront, IsWhole};
+ghost use Rattle.talk_core.specs.Ended.{Shows};
+ghost use Rattle.puma_top.specs.Once.{once_peer};
+ghost use Rattle.puma_top.specs.OnceSteps.{Serves, IsOfOnce, status_by, source_of, sink_of};
+ghost use Rattle.puma_top.specs.Seen.{source_seen, sink_seen};
 
 use crate::Status;
-use crate::reply::{endpoint_reply, fault_reply};
-use crate::served::{environment, is_served};
-use crate::stack::Stack;
-use message_framing::{Feed, Intake};
-use rack_outside::{Sink, SinkWrite, Source, SourceRead};
-use rack_types::{Env, Fault, Limits, NoMemory};
+use crate::drive::{drive, is_over};
+use crate::runner::AppRunner;
+use conn_core::{Conn, Ended, Why};
+use hijack_core::Never;
+use rack_outside::{Link, PairLink, Sink, Source};
+use rack_types::{Limits, Local, Peer, Plain};
 use std::alloc::Global;
+use stock_apps::App;
 
-// The bytes that one read may give.
-const PIECE: usize = 16_384;
-
-/// What came first.
-#[derive(Drop)]
-pub(crate) enum Came {
-    /// A whole request that the stack answers, as its environment, whose input is its body.
-    Asked(Env),
-    /// A whole request whose reply is not built yet.
-    Unbuilt,
-    /// Bytes that are refused.
-    Refused(Fault),
-    /// The end of the input, and neither of the two before it.
-    Nothing,
-}
-
-/// Reads until a request or a refusal stands, or to the input's end, and writes the one reply to it.
-pub(crate) fn serve<S: Source, K: Sink>(
-    alloc: Global,
-    stack: Stack<'_>,
-    src: &mut S,
-    out: &mut K,
-) -> Status
-    ensures ends { Ends result (endpoint_of stack.entry)
-        (S.given src.old) (S.given src.new) (S.input src.new) (S.faults src.old) (S.faults src.new)
-        (K.written out.old) (K.written out.new) (K.faults out.old) (K.faults out.new) }
+/// Serves one connection by this endpoint: what the source gives is read, and what answers it goes to
+/// the sink, until the connection ends or too many bytes came.
+pub(crate) fn serve<S: Source, K: Sink>(alloc: Global, app: App, src: &mut S, out: &mut K) -> Status
+    requires given { Tells (S.given src.old) [] }
+    requires written { Tells (K.written out.old) [] }
+    ensures serves { Serves result app (source_seen S.input S.given S.faults src.old) (sink_seen K.written K.faults out.old)
+        (source_seen S.input S.given S.faults src.new) (sink_seen K.written K.faults out.new) }
     ensures same { S.input src.new ≡ S.input src.old }
     ensures prefix { IsPrefix (S.given src.old) (S.input src.old) → IsPrefix (S.given src.new) (S.input src.new) }
 {
-    let came = match take_in(alloc, src) {
-        Ok(came) => came,
-        Err(status) => return status,
-    };
-    let reply = match came {
-        Came::Asked(mut env) => endpoint_reply(alloc, stack, env.input().all()),
-        Came::Unbuilt => fault_reply(alloc, Fault::F(0)),
-        Came::Refused(fault) => fault_reply(alloc, fault),
-        Came::Nothing => return Status::Done,
-    };
-    match reply {
-        Ok(text) => send(out, &text),
-        Err(_) => Status::NoMemory,
-    }
+    let mut status = Status::Done;
+    let link = PairLink::new(src, out);
+    let link = talk(alloc, app, link, &mut status);
+    let _over = link.over;
+    status
 }
 
-// Reads until something stands. The pieces lie in one room, which is made once.
-fn take_in<S: Source>(alloc: Global, src: &mut S) -> Result<Came, Status>
-    ensures takes { TakesIn result (S.given src.old) (S.given src.new) (S.input src.new) (S.faults src.old) (S.faults src.new) }
-    ensures same { S.input src.new ≡ S.input src.old }
-    ensures prefix { IsPrefix (S.given src.old) (S.input src.old) → IsPrefix (S.given src.new) (S.input src.new) }
+// The same on any link that never has to wait, and that tells whether its peer ended.
+fn talk<L: Link + Drop>(alloc: Global, app: App, link: L, status: &mut Status) -> L
+    requires fresh { Shows (L.seen link) once_peer [] [] false }
+    requires patient { (l : L) → (L.seen l).waits ≡ 0 }
+    requires told { (l : L) → (over : Bool) × ((L.seen l).over ≡ Some over) }
+    requires front { (l : L) → IsFront (L.seen l).given (L.seen l).input }
+    requires whole { (l : L) → (L.seen l).over ≡ Some true → IsWhole (L.seen l).given (L.seen l).input }
+    ensures serves { Serves status.new app (source_of (L.seen link)) (sink_of (L.seen link)) (source_of (L.seen result)) (sink_of (L.seen result)) }
+    ensures borrows { (L.seen result).borrows ≡ (L.seen link).borrows }
+    ensures same { (L.seen result).input ≡ (L.seen link).input }
 {
-    let Ok(mut intake) = Intake::new(alloc, Limits::stock()) else {
-        return Err(Status::NoMemory);
+    let local = Local {
+        name: Peer::new(b"localhost").unwrap(),
+        port: 9292,
+        https: false,
+        hijack: true,
     };
-    let Ok(mut room) = room_for_pieces(alloc) else {
-        return Err(Status::NoMemory);
-    };
-    // What was fed so far: bytes in which nothing stands are bounded, so the loop ends.
-    let mut count = 0;
-    'pieces: loop {
-        let n = match src.read(room.as_mut_slice()) {
-            SourceRead::Bytes(n) => n,
-            SourceRead::End => return Ok(Came::Nothing),
-            SourceRead::Failed => return Err(Status::SourceFault),
-        };
-        match intake.feed(&room[..n]) {
-            Ok(Feed::More) => count += n,
-            Ok(Feed::Whole(_)) => return admit(alloc, &mut intake),
-            Ok(Feed::Refused(fault)) => return Ok(Came::Refused(fault)),
-            Err(_) => return Err(Status::NoMemory),
+    let peer = Peer::new(b"127.0.0.1").unwrap();
+    let mut conn: Conn<L, Plain, Never> = match Conn::open(
+        alloc,
+        0,
+        link,
+        peer,
+        local,
+        Limits::stock(),
+        0,
+        0,
+    ) {
+        Ok(conn) => conn,
+        Err(ended) => {
+            let Ended {
+                number: _,
+                link,
+                lives: _,
+                calls: _,
+                told: _,
+                closing: _,
+                why: _,
+            } = ended;
+            *status = Status::NoMemory;
+            return link;
         }
+    };
+    let mut runner = AppRunner { app, runs: 0 };
+    drive(&mut conn, &mut runner);
+    if is_over(&conn) {
+        let Ended {
+            number: _,
+            link,
+            lives: _,
+            calls: _,
+            told: _,
+            closing: _,
+            why,
+        } = conn.finish();
+        *status = status_of(why);
+        link
+    } else {
+        *status = Status::TooLong;
+        conn.leave()
     }
 }
 
-// The room that each piece is read into.
-fn room_for_pieces(alloc: Global) -> Result<Vec<u8>, NoMemory>
-    ensures { IfOk result (λ room. vec_len room ≡ 16384) }
+// The status of a connection that ended so.
+fn status_of(ended: Why) -> Status
+    requires once { IsOfOnce ended }
+    ensures { result ≡ status_by ended }
 {
-    vec![in alloc; 0u8; PIECE]
-}
-
-// Tells whether the stack answers the request that stands, and makes its environment, which takes the
-// body over.
-fn admit(alloc: Global, intake: &mut Intake) -> Result<Came, Status>
-    requires { (b : List ℕ) × (r : Parts) × Fed intake.old b × IsRequest b r }
-    ensures { (b : List ℕ) (r : Parts) → Fed intake.old b → IsRequest b r → Admits result r }
-{
-    if !is_served(intake.request().unwrap()) {
-        return Ok(Came::Unbuilt);
+    match ended {
+        Why::Closed => Status::Done,
+        Why::PeerEnd => Status::Done,
+        Why::ReadFailed => Status::SourceFault,
+        Why::WriteFailed => Status::SinkFault,
+        Why::NoMemory => Status::NoMemory,
+        Why::Idle(_) => unreachable!(),
+        Why::TimedOut { .. } => unreachable!(),
+        Why::Stalled { .. } => unreachable!(),
+        Why::Unread { .. } => unreachable!(),
+        Why::Halted { .. } => unreachable!(),
+        Why::Hijacked => unreachable!(),
     }
-    let input = intake.take_input();
-    match environment(alloc, intake.request().unwrap(), input) {
-        Ok(env) => Ok(Came::Asked(env)),
-        Err(_) => Err(Status::NoMemory),
-    }
-}
-
-// Writes the text, in one write where the sink takes it whole.
-fn send<K: Sink>(out: &mut K, text: &[u8]) -> Status
-    ensures { Sends result text.now (K.written out.old) (K.written out.new) (K.faults out.old) (K.faults out.new) }
-{
-    let mut sent = 0;
-    while sent < text.len() {
-        match out.write(&text[sent..]) {
-            SinkWrite::Took(n) => sent += n,
-            SinkWrite::Failed => return Status::SinkFault,
-            SinkWrite::NoMemory => return Status::NoMemory,
-        }
-    }
-    Status::Done
 }

@@ -1,5 +1,6 @@
 // The commands that wait for nobody.
-ghost use Rattle.std.specs.Prelude.{◌≡◌, ◌≢◌, Some};
+ghost use Rattle.std.specs.Prelude.{◌≡◌, ◌≢◌, [], Some};
+ghost use Rattle.rack_outside.specs.Link.{Tells};
 ghost use Rattle.rack_outside.specs.Source.{IsPrefix};
 ghost use Rattle.puma_top.specs.Seen.{seen};
 ghost use Rattle.puma_top.specs.Words.{command_of, once};
@@ -21,8 +22,11 @@ const STACK_LIMIT: usize = 65_536;
 /// Runs the command that the words behind the program's name say, and tells how it ended.
 ///
 /// `once NAME` serves one connection from the source to the sink: it reads the stack file of that
-/// name, answers the first request or the first refusal, and stops there. It waits for nobody but
-/// the objects that it was handed, and takes memory.
+/// name, and then answers all requests that come, one behind the other, until the connection ends: by a
+/// reply that closes, behind a refusal, or at the input's end. It waits for nobody but the objects that
+/// it was handed, and takes memory.
+///
+/// Nothing was given by the source yet, and nothing written to the sink.
 pub fn run_quiet<F: Files, S: Source, K: Sink>(
     alloc: Global,
     words: &[String],
@@ -30,6 +34,8 @@ pub fn run_quiet<F: Files, S: Source, K: Sink>(
     src: &mut S,
     out: &mut K,
 ) -> Status
+    requires given { Tells (S.given src.old) [] }
+    requires written { Tells (K.written out.old) [] }
     ensures ran { let shown = seen F.holds F.texts F.faults S.input S.given S.faults K.written K.faults in
         Ran (command_of words.now) result (shown files.old src.old out.old) (shown files.new src.new out.new) }
     ensures unasked { OnUsage result (files.new ≡ files.old) }
@@ -46,6 +52,8 @@ fn run_command<F: Files, S: Source, K: Sink>(
     src: &mut S,
     out: &mut K,
 ) -> Status
+    requires given { Tells (S.given src.old) [] }
+    requires written { Tells (K.written out.old) [] }
     ensures did { let shown = seen F.holds F.texts F.faults S.input S.given S.faults K.written K.faults in
         Did result (command_of words.now) (shown files.old src.old out.old) (shown files.new src.new out.new) }
     ensures same { S.input src.new ≡ S.input src.old }
@@ -69,6 +77,8 @@ fn run_once<F: Files, S: Source, K: Sink>(
     src: &mut S,
     out: &mut K,
 ) -> Status
+    requires given { Tells (S.given src.old) [] }
+    requires written { Tells (K.written out.old) [] }
     ensures did { let shown = seen F.holds F.texts F.faults S.input S.given S.faults K.written K.faults in
         Did result (Some (once name.now)) (shown files.old src.old out.old) (shown files.new src.new out.new) }
     ensures same { S.input src.new ≡ S.input src.old }
@@ -80,9 +90,10 @@ fn run_once<F: Files, S: Source, K: Sink>(
         Ok(text) => text,
         Err(status) => return status,
     };
-    match read_stack_line(text.get()) {
-        Some(stack) => serve(alloc, stack, src, out),
-        None => Status::Stack { line: 1, rule: 0 },
+    match read_stack_line(alloc, text.get()) {
+        Ok(Some(app)) => serve(alloc, app, src, out),
+        Ok(None) => Status::Stack { line: 1, rule: 0 },
+        Err(_) => Status::NoMemory,
     }
 }
 

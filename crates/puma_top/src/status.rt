@@ -29,6 +29,8 @@ pub enum Status {
     SourceFault,
     /// A write to the connection failed.
     SinkFault,
+    /// The connection gave more bytes than are taken of one: 2^40.
+    TooLong,
 }
 
 impl Status {
@@ -46,6 +48,7 @@ impl Status {
             Status::Stack { .. } => 4,
             Status::SourceFault => 6,
             Status::SinkFault => 7,
+            Status::TooLong => 9,
         }
     }
 }

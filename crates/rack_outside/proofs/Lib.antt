@@ -1,3 +1,5 @@
 mod CabinetLemmas
+pub mod CallerLemmas
+mod CountLemmas
 mod SupplyLemmas
 mod LinkLemmas

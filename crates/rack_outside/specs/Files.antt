@@ -1,9 +1,9 @@
 -- What a file's reading gives.
-use Rattle.std.specs.Prelude.{◌≡◌, ◌≢◌, ℕ, ◌<◌, ◌≤◌, List, [], ◌∷◌, length, Option, Some, Result, Ok, Err, ⊤}
+use Rattle.std.specs.Prelude.{◌≡◌, ◌≢◌, ℕ, ◌<◌, ◌≤◌, List, [], ◌∷◌, length, Option, None, Some, Result, Ok, Err, ⊤}
 use Rattle.std.specs.declared.alloc.AllocError.{AllocError}
 use Rattle.rack_outside.specs.declared.files.FileRead.{FileRead}
 use Rattle.rack_outside.specs.declared.files.FileRead.TheVariants.{Text, Absent, Long, Failed}
-use Rattle.rack_outside.specs.Told.{Appends}
+use Rattle.rack_outside.specs.Told.{appended}
 
 -- the texts to come under each name
 abbrev pub Shelf : Type 0
@@ -33,16 +33,16 @@ IsTurning Absent name old new = (other : List ℕ) → new other ≡ old other
 IsTurning Long name old new = Turns name old new
 IsTurning Failed name old new = (other : List ℕ) → new other ≡ old other
 
--- what the answer says of the shelves, where the object tells them
+-- what the answer says of the shelves, where the object tells them. What is not told stays untold
 abbrev pub Answers : Result FileRead AllocError → List ℕ → ℕ → Option Shelf → Option Shelf → Type 0
-Answers (Ok answer) name limit old new =
-    (before : Shelf) → old ≡ Some before
-    → AnswersFrom answer limit (before name) × (after : Shelf) × (new ≡ Some after) × IsTurning answer name before after
+Answers (Ok answer) name limit None new = new ≡ None
+Answers (Ok answer) name limit (Some before) new =
+    AnswersFrom answer limit (before name) × (after : Shelf) × (new ≡ Some after) × IsTurning answer name before after
 Answers (Err e) name limit old new = new ≡ old
 
--- the name and the answer are noted, where the object tells them
+-- the name and the answer are noted behind those before, where the object tells them
 abbrev pub Notes : Result FileRead AllocError → List ℕ → Option (List (List ℕ × FileRead)) → Option (List (List ℕ × FileRead)) → Type 0
-Notes (Ok answer) name old new = Appends old new ((name, answer) ∷ [])
+Notes (Ok answer) name old new = new ≡ appended old ((name, answer) ∷ [])
 Notes (Err e) name old new = new ≡ old
 
 -- the fact, if the reading failed

@@ -1,10 +1,13 @@
 pub mod Cabinet
 pub mod Files
-pub mod OneText
 pub mod Link
+pub mod OneText
+pub mod Places
 pub mod Sink
 pub mod Source
 pub mod Supply
 pub mod Told
 pub mod Tray
+pub mod Watched
+pub mod Watcher
 pub mod Wire

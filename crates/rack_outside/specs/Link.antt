@@ -1,11 +1,11 @@
 -- What contracts see of a link, and what its reads and writes leave of it.
-use Rattle.std.specs.Prelude.{◌≡◌, ◌≢◌, ℕ, ◌+◌, ◌-◌, ◌<◌, ◌≤◌, min, Bool, true, false, ◌||◌, ◌==◌, List, [], length, take, drop, Option, None, Some, ⊤}
-use Rattle.std.specs.List.{list_any}
+use Rattle.std.specs.Prelude.{◌≡◌, ◌≢◌, ℕ, ◌+◌, ◌-◌, ◌<◌, ◌≤◌, min, Bool, true, false, ◌||◌, List, [], length, take, drop, Option, None, Some, is_some, ⊤}
 use Rattle.rack_outside.specs.declared.link.LinkRead.{LinkRead}
 use Rattle.rack_outside.specs.declared.link.LinkRead.TheVariants as read
 use Rattle.rack_outside.specs.declared.link.LinkWrite.{LinkWrite}
 use Rattle.rack_outside.specs.declared.link.LinkWrite.TheVariants as write
 use Rattle.rack_outside.specs.Told.{counted, Rose, appended}
+use Rattle.rack_outside.specs.Places.{is_named}
 
 -- what is to come at a link that tells it: the bytes that the peer gave and that were not read, whether the peer
 -- ends behind them, how many bytes are still taken (without an end where it is None), and the failures that are
@@ -18,14 +18,15 @@ pub record Ahead : Type 0 where
   pub read_fails : Bool
   pub write_fails : Bool
 
--- what a link shows: its tag and its peer; the names of what it borrows, by which a lender knows it again; the
--- bytes that were read from it and those that it took; whether a read answered that the peer ended; how many reads
+-- what a link shows: its tag and its peer; the names of what it borrows, by which a lender knows it again; all bytes
+-- that are there to be read from its start on; the bytes that were read from it and those that it took; whether a read answered that the peer ended; how many reads
 -- and how many writes failed, how many calls had to wait, how many reads and how many writes there were; and what
 -- is to come. What is None is not told.
 pub record Seen : Type 0 where
   pub tag : ℕ
   pub peer : Option (List ℕ)
   pub borrows : List ℕ
+  pub input : Option (List ℕ)
   pub given : Option (List ℕ)
   pub sent : Option (List ℕ)
   pub over : Option Bool
@@ -64,6 +65,7 @@ pub record IsOneRead (old new : Seen) : Type 0 where
   pub tag : new.tag ≡ old.tag
   pub peer : new.peer ≡ old.peer
   pub borrows : new.borrows ≡ old.borrows
+  pub input : new.input ≡ old.input
   pub sent : new.sent ≡ old.sent
   pub reads : new.reads ≡ counted old.reads
   pub writes : new.writes ≡ old.writes
@@ -85,6 +87,7 @@ pub record IsOneWrite (old new : Seen) : Type 0 where
   pub tag : new.tag ≡ old.tag
   pub peer : new.peer ≡ old.peer
   pub borrows : new.borrows ≡ old.borrows
+  pub input : new.input ≡ old.input
   pub given : new.given ≡ old.given
   pub over : new.over ≡ old.over
   pub reads : new.reads ≡ old.reads
@@ -93,20 +96,31 @@ pub record IsOneWrite (old new : Seen) : Type 0 where
   pub failed_writes : old.failed_writes ≤ new.failed_writes
   pub waits : old.waits ≤ new.waits
 
+-- what a touch leaves alone: all that the link told and counted. It tells what is to come where it told it before
+pub record IsTouched (old new : Seen) : Type 0 where
+  pub tag : new.tag ≡ old.tag
+  pub peer : new.peer ≡ old.peer
+  pub borrows : new.borrows ≡ old.borrows
+  pub given : new.given ≡ old.given
+  pub sent : new.sent ≡ old.sent
+  pub over : new.over ≡ old.over
+  pub failed_reads : new.failed_reads ≡ old.failed_reads
+  pub failed_writes : new.failed_writes ≡ old.failed_writes
+  pub waits : new.waits ≡ old.waits
+  pub reads : new.reads ≡ old.reads
+  pub writes : new.writes ≡ old.writes
+  pub tells : is_some new.ahead ≡ is_some old.ahead
+
 -- the place of the next call
 abbrev pub next_place : Seen → ℕ
 next_place s = counted (s.reads + s.writes)
 
--- a failure is set for this place
-abbrev pub is_set : List ℕ → ℕ → Bool
-is_set fails place = list_any (λ named. named == place) fails
-
 -- a failure is set for the next call, if it is a read, and if it is a write
 abbrev pub fails_read : Ahead → ℕ → Bool
-fails_read a place = a.read_fails || is_set a.fails place
+fails_read a place = a.read_fails || is_named a.fails place
 
 abbrev pub fails_write : Ahead → ℕ → Bool
-fails_write a place = a.write_fails || is_set a.fails place
+fails_write a place = a.write_fails || is_named a.fails place
 
 -- a read fails exactly where a failure is set for it; else it gives as many of the unread bytes as fit, from the
 -- front; else it tells the end where the peer ended, and else that there is nothing yet

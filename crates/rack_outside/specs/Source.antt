@@ -9,6 +9,10 @@ abbrev pub IsPrefix : Option (List ℕ) → Option (List ℕ) → Type 0
 IsPrefix given input =
     (xs ys : List ℕ) → given ≡ Some xs → input ≡ Some ys → (rest : List ℕ) × (ys ≡ xs ++ rest)
 
+-- the same as an equation
+abbrev pub IsFront : Option (List ℕ) → Option (List ℕ) → Type 0
+IsFront given input = (xs ys : List ℕ) → given ≡ Some xs → input ≡ Some ys → take (length xs) ys ≡ xs
+
 -- what was given is the whole input, where the source tells both
 abbrev pub IsWhole : Option (List ℕ) → Option (List ℕ) → Type 0
 IsWhole given input = (xs ys : List ℕ) → given ≡ Some xs → input ≡ Some ys → ys ≡ xs

@@ -1,7 +1,8 @@
 -- What a source in memory gives: its input in pieces, and a fault at each place that was named.
-use Rattle.std.specs.Prelude.{◌≡◌, ℕ, ◌<◌, min, max, List, [], ◌∷◌, ◌++◌, length, take, drop, Contains}
+use Rattle.std.specs.Prelude.{◌≡◌, ℕ, ◌<◌, min, max, true, false, List, [], ◌∷◌, ◌++◌, length, take, drop}
 use Rattle.rack_outside.specs.declared.source.SourceRead.{SourceRead}
 use Rattle.rack_outside.specs.declared.source.SourceRead.TheVariants.{Bytes, End, Failed}
+use Rattle.rack_outside.specs.Places.{is_named}
 use Rattle.rack_outside.specs.Told.{counted}
 
 -- an input, how much of it was given, and the sizes of the pieces to come
@@ -49,11 +50,11 @@ Supplies Failed old new before after = ⊥
 -- what a read gives: a fault exactly where its place was named, counted from 1
 abbrev pub SuppliesOrFails : SourceRead → FaultySupply → FaultySupply → List ℕ → List ℕ → Type 0
 SuppliesOrFails Failed old new before after =
-    Contains old.fails (counted old.reads)
+    (is_named old.fails (counted old.reads) ≡ true)
     × (new ≡ record { supply = old.supply; fails = old.fails; reads = counted old.reads; faults = counted old.faults })
     × (after ≡ before)
 SuppliesOrFails answer old new before after =
-    ¬ Contains old.fails (counted old.reads)
+    (is_named old.fails (counted old.reads) ≡ false)
     × Supplies answer old.supply new.supply before after
     × (new.fails ≡ old.fails)
     × (new.reads ≡ counted old.reads)

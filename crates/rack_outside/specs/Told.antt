@@ -17,3 +17,8 @@ Appends {A} old new more = (xs : List A) → old ≡ Some xs → new ≡ Some (x
 abbrev pub appended : {A : Type 0} → Option (List A) → List A → Option (List A)
 appended {A} None more = None
 appended {A} (Some xs) more = Some (xs ++ more)
+
+-- this list in place of the one before. What is not told stays untold
+abbrev pub retold : {A : Type 0} → Option (List A) → List A → Option (List A)
+retold {A} None list = None
+retold {A} (Some before) list = Some list

@@ -42,6 +42,7 @@ wire_seen w = record {
   tag = w.pipe.tag;
   peer = Some memory_peer;
   borrows = [];
+  input = None;
   given = Some w.pipe.given;
   sent = Some w.pipe.sent;
   over = Some w.pipe.over;

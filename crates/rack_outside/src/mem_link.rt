@@ -1,8 +1,9 @@
 // A link in memory that fails where it is told to.
 ghost use Rattle.std.specs.Prelude.{◌≡◌, ◌<◌, length, true, OnOk, OnErr};
-ghost use Rattle.rack_outside.specs.Link.{Reads, IsOneRead, ReadsAhead, Writes, IsOneWrite, WritesAhead, next_place, is_set as is_named_in};
+ghost use Rattle.rack_outside.specs.Link.{Reads, IsOneRead, ReadsAhead, Writes, IsOneWrite, WritesAhead, next_place};
 ghost use Rattle.rack_outside.specs.Wire.{fresh_wire, wire_seen, with_more, with_end, with_room, CountsRead, CountsWrite};
 
+use crate::places::is_named;
 use crate::{Link, LinkRead, LinkWrite, SureLink};
 use rack_types::{Bytes, NoMemory};
 use std::alloc::Global;
@@ -117,7 +118,7 @@ impl Link for MemLink {
         ensures ahead { ReadsAhead result room.new (wire_seen self.old).ahead (next_place (wire_seen self.old)) (wire_seen self.new).ahead }
         ensures counts { CountsRead result (wire_seen self.old) (wire_seen self.new) }
     {
-        let fails = self.read_fails || is_set(self.fails.get(), self.link.next_place());
+        let fails = self.read_fails || is_named(self.fails.get(), self.link.next_place());
         self.read_fails = false;
         if fails {
             self.link.miss_read();
@@ -137,7 +138,7 @@ impl Link for MemLink {
         ensures ahead { WritesAhead result piece.now (wire_seen self.old).ahead (next_place (wire_seen self.old)) (wire_seen self.new).ahead }
         ensures counts { CountsWrite result (wire_seen self.old) (wire_seen self.new) }
     {
-        let fails = self.write_fails || is_set(self.fails.get(), self.link.next_place());
+        let fails = self.write_fails || is_named(self.fails.get(), self.link.next_place());
         self.write_fails = false;
         if fails {
             self.link.miss_write();
@@ -146,11 +147,4 @@ impl Link for MemLink {
         }
         self.link.write(piece)
     }
-}
-
-// Whether a failure is set for this place.
-fn is_set(fails: &[u8], place: u64) -> bool
-    ensures { result ≡ is_named_in fails.now place }
-{
-    fails.iter().any(|named| u64::from(*named) == place)
 }

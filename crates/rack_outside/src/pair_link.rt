@@ -1,6 +1,6 @@
 // A link of a source and a sink.
 ghost use Rattle.std.specs.Prelude.{◌≡◌, ◌∷◌, [], Some, None, true, false, codes};
-ghost use Rattle.rack_outside.specs.Source.{IsWhole};
+ghost use Rattle.rack_outside.specs.Source.{IsFront, IsWhole};
 
 use crate::{Link, LinkRead, LinkWrite, Sink, SinkWrite, Source, SourceRead};
 
@@ -22,6 +22,8 @@ pub struct PairLink<'a, S: Source, K: Sink> {
     pub reads: u64,
     /// How many writes there were.
     pub writes: u64,
+    /// What was given is the front of the input.
+    pub ghost front: { IsFront (S.given source.now) (S.input source.now) },
     /// Where a read answered the end, all of the input was given.
     pub ghost whole: { over ≡ true → IsWhole (S.given source.now) (S.input source.now) },
 }
@@ -29,6 +31,7 @@ pub struct PairLink<'a, S: Source, K: Sink> {
 impl<'a, S: Source, K: Sink> PairLink<'a, S, K> {
     /// A link of this source and this sink, of which nothing was read yet. It takes no memory.
     pub fn new(source: &'a mut S, sink: &'a mut K) -> PairLink<'a, S, K>
+        requires front { IsFront (S.given source.old) (S.input source.old) }
         ensures source { result.source.now ≡ source.old }
         ensures sink { result.sink.now ≡ sink.old }
         ensures borrows_source { result.source.ghost_name ≡ source.entry.ghost_name }
@@ -50,6 +53,7 @@ impl<'a, S: Source, K: Sink> Link for PairLink<'a, S, K> {
       tag = 0;
       peer = None;
       borrows = l.source.ghost_name ∷ l.sink.ghost_name ∷ [];
+      input = S.input l.source.now;
       given = S.given l.source.now;
       sent = K.written l.sink.now;
       over = Some l.over;

@@ -4,7 +4,7 @@ use Rattle.std.specs.Fmt.{digits}
 use Rattle.httparse.specs.Grammar.{is_token, is_token_byte, trim_ows}
 use Rattle.rack_text.specs.Case.{lowered, same_ignoring_case}
 use Rattle.rack_text.specs.Decimal.{is_decimal, decimal_number}
-use Rattle.rack_text.specs.Escaped.{spelled, unescaped}
+use Rattle.rack_text.specs.Escaped.{escaped, spelled, spelling, unescaped}
 use Rattle.rack_text.specs.Host.{is_name_byte, is_address_byte, host_parts, is_valid_host}
 use Rattle.rack_text.specs.Lists.{elements, list_has}
 
@@ -49,10 +49,10 @@ no_hosts : (is_valid_host (codes "h:65536") ≡ false) × (is_valid_host (codes 
 unfolding host_parts is_name_byte is_address_byte
 no_hosts = (refl, refl, refl, refl, refl, refl, refl, refl, refl, refl, refl, refl)
 
-escaped : (unescaped (codes "\\e") ≡ Some []) × (unescaped (codes "!~") ≡ Some (codes "!~")) × (unescaped (codes "a\\s\\\\") ≡ Some (codes "a \\"))
+read_texts : (unescaped (codes "\\e") ≡ Some []) × (unescaped (codes "!~") ≡ Some (codes "!~")) × (unescaped (codes "a\\s\\\\") ≡ Some (codes "a \\"))
     × (unescaped (codes "\\n\\r") ≡ Some (10 ∷ 13 ∷ [])) × (unescaped (codes "\\x00\\xfF") ≡ Some (0 ∷ 255 ∷ []))
 unfolding spelled
-escaped = (refl, refl, refl, refl, refl)
+read_texts = (refl, refl, refl, refl, refl)
 
 not_escaped : (unescaped [] ≡ None) × (unescaped (codes " ") ≡ None) × (unescaped (127 ∷ []) ≡ None) × (unescaped (codes "\\") ≡ None) × (unescaped (codes "\\t") ≡ None)
     × (unescaped (codes "\\ea") ≡ None) × (unescaped (codes "a\\e") ≡ None) × (unescaped (codes "\\x4") ≡ None) × (unescaped (codes "\\xg0") ≡ None)
@@ -62,3 +62,9 @@ not_escaped = (refl, refl, refl, refl, refl, refl, refl, refl, refl)
 sizes : (digits 16 false 0 ≡ codes "0") × (digits 16 false 65_536 ≡ codes "10000") × (digits 16 false 1_048_575 ≡ codes "fffff")
 unfolding digits
 sizes = (refl, refl, refl)
+
+written_texts : (escaped [] ≡ codes "\\e") × (escaped (codes "!~09Az[]") ≡ codes "!~09Az[]") × (escaped (codes "1, 2") ≡ codes "1,\\s2") × (escaped (codes "\\e") ≡ codes "\\\\e")
+    × (escaped (10 ∷ 13 ∷ 92 ∷ []) ≡ codes "\\n\\r\\\\") × (escaped (0 ∷ 9 ∷ 31 ∷ []) ≡ codes "\\x00\\x09\\x1f")
+    × (escaped (127 ∷ 128 ∷ 255 ∷ []) ≡ codes "\\x7f\\x80\\xff")
+unfolding escaped spelling
+written_texts = (refl, refl, refl, refl, refl, refl, refl)

@@ -17,7 +17,7 @@ pub record ReadsTo (word : List ℕ) (at start : ℕ) (old new : List ℕ) : Typ
   pub appended : new ≡ old ++ done
   pub spelled_is : spelled word ≡ behind_all done (spelled (drop at word))
 
-spelled-other : (b : ℕ) (rest : List ℕ) → b ≢ 92 → spelled (b ∷ rest) ≡ before (plain_byte b) (spelled rest)
+pub spelled-other : (b : ℕ) (rest : List ℕ) → b ≢ 92 → spelled (b ∷ rest) ≡ before (plain_byte b) (spelled rest)
 unfolding spelled
 spelled-other b rest other = rw (ne_eqb b 92 other) refl
 
@@ -25,7 +25,7 @@ spelled-backslash : (b : ℕ) (rest : List ℕ) → b ≡ 92 → spelled (b ∷ 
 unfolding spelled
 spelled-backslash b rest is = rw is refl
 
-spelled-none : spelled [] ≡ Some []
+pub spelled-none : spelled [] ≡ Some []
 unfolding spelled
 spelled-none = refl
 

@@ -5,4 +5,6 @@ pub mod HostLemmas
 pub mod ListLemmas
 mod HexLemmas
 mod EscapedLemmas
+mod SpellingLemmas
+pub mod ReadAgain
 pub mod CallerLemmas

@@ -1,6 +1,8 @@
 -- Escaped text, which is this project's own: any bytes as one word of visible ASCII.
-use Rattle.std.specs.Prelude.{◌≡◌, ℕ, ◌+◌, ◌*◌, ◌<◌, ◌≤◌, Bool, true, false, ◌==◌, ◌&&◌, nat_le, not, List, [], ◌∷◌, ◌++◌, Option, None, Some, option_map, drop, length, codes, bytes_eq, if◌then◌else◌}
+use Rattle.std.specs.Prelude.{◌≡◌, ℕ, ◌+◌, ◌*◌, ◌/◌, ◌%◌, ◌<◌, ◌≤◌, Bool, true, false, ◌==◌, ◌&&◌, nat_le, not, List, [], ◌∷◌, ◌++◌, Option, None, Some, option_map, take, drop, length, codes, bytes_eq, if◌then◌else◌}
 use Rattle.std.specs.Char.{is_ascii_hexdigit, digit_value}
+use Rattle.std.specs.Fmt.{digit_glyph}
+use Rattle.std.specs.List.{flat_map}
 
 -- the byte stands for itself: it is visible ASCII, and no `\`
 abbrev pub is_plain : ℕ → Bool
@@ -55,6 +57,21 @@ spelled_some (b ∷ rest) = spelled (b ∷ rest)
 abbrev pub unescaped : List ℕ → Option (List ℕ)
 unescaped word = if bytes_eq word (codes "\\e") then Some [] else spelled_some word
 
+-- how a byte is written: as itself, or by its letter behind a `\`, or else by `\x` and two digits in lower case
+unfoldable pub spelling : ℕ → List ℕ
+spelling b =
+    if is_plain b then b ∷ []
+    else if b == 32 then codes "\\s"
+    else if b == 10 then codes "\\n"
+    else if b == 13 then codes "\\r"
+    else if b == 92 then codes "\\\\"
+    else codes "\\x" ++ (digit_glyph false (b / 16) ∷ digit_glyph false (b % 16) ∷ [])
+
+-- the escaped text that is written for a text: `\e` for the empty one, else the spelling of each byte in turn
+unfoldable pub escaped : List ℕ → List ℕ
+escaped [] = codes "\\e"
+escaped (b ∷ bytes) = flat_map spelling (b ∷ bytes)
+
 -- the text of a word, where it has one, was appended to the bytes; else they are as before
 abbrev pub Unescapes : Bool → Option (List ℕ) → List ℕ → List ℕ → Type 0
 Unescapes true None old new = ⊥
@@ -68,3 +85,9 @@ abbrev pub ReadsFirst : Option (ℕ × ℕ) → Option (List ℕ) → List ℕ �
 ReadsFirst None text bytes = text ≡ None
 ReadsFirst (Some first) text bytes =
     (text ≡ before (Some first.0) (spelled (drop first.1 bytes))) × (0 < first.1) × (first.1 ≤ length bytes)
+
+-- of private functions alone: the spellings of the first n bytes were appended
+pub record WritesFirst (n : ℕ) (bytes old new : List ℕ) : Type 0 where
+  pub some : 0 < n
+  pub within : n ≤ length bytes
+  pub written : new ≡ old ++ flat_map spelling (take n bytes)

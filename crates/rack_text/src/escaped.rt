@@ -1,10 +1,95 @@
 // Escaped text.
-ghost use Rattle.std.specs.Prelude.{◌≡◌, ◌<◌, IfOk, IfSome, OnErr, IsTrue, SomeIff, drop, length};
+ghost use Rattle.std.specs.Prelude.{◌≡◌, ◌<◌, ◌≤◌, ◌++◌, IfOk, IfSome, OnErr, OnOk, IsTrue, SomeIff, drop, false, length};
 ghost use Rattle.std.specs.Char.{digit_value, is_ascii_hexdigit};
+ghost use Rattle.std.specs.List.{prefix_len};
 ghost use Rattle.rack_text.specs.Escaped as spec;
-ghost use Rattle.rack_text.specs.Escaped.{ReadsFirst, Unescapes, spelled, spelled_behind, spelled_hex};
+ghost use Rattle.rack_text.specs.Escaped.{ReadsFirst, Unescapes, WritesFirst, spelled, spelled_behind, spelled_hex, spelling};
 
+use crate::number::hex_digit;
 use std::alloc::AllocError;
+
+/// Appends the escaped text of a text, which `unescape` reads again as that text. The format is this
+/// project's own.
+///
+/// A byte from 33 to 126 other than `\` stands for itself. A space is `\s`, LF `\n`, CR `\r`, a
+/// backslash `\\`, and any other byte `\x` with two hexadecimal digits in lower case. The empty text is
+/// `\e`.
+///
+/// It takes memory for at most four times as many bytes as the text has, and for two at least. Where
+/// that is refused, `out` is as before.
+pub fn escape(text: &[u8], out: &mut Vec<u8>) -> Result<(), AllocError>
+    ensures written { OnOk result (out.new.items ≡ out.old.items ++ spec.escaped text.now) }
+    ensures unchanged { OnErr result (out.new.items ≡ out.old.items) }
+{
+    if text.is_empty() {
+        return out.extend_from_slice(b"\\e");
+    }
+    out.reserve(text.len())?;
+    let before = out.len();
+    let mut at = 0;
+    while at < text.len() {
+        match append_first(&text[at..], out) {
+            Ok(read) => at += read,
+            Err(refused) => {
+                out.truncate(before);
+                return Err(refused);
+            }
+        }
+    }
+    Ok(())
+}
+
+// Appends the spellings of the first bytes: of all that stand for themselves, or of the one byte that
+// doesn't. Answers how many they are.
+fn append_first(bytes: &[u8], out: &mut Vec<u8>) -> Result<usize, AllocError>
+    requires { 0 < length bytes.now }
+    ensures written { IfOk result (λ n. WritesFirst n bytes.now out.old.items out.new.items) }
+    ensures unchanged { OnErr result (out.new.items ≡ out.old.items) }
+{
+    let run = plain_run(bytes);
+    if run > 0 {
+        out.extend_from_slice(&bytes[..run])?;
+        return Ok(run);
+    }
+    append_spelling(bytes[0], out)?;
+    Ok(1)
+}
+
+// How many bytes in front stand for themselves.
+fn plain_run(bytes: &[u8]) -> usize
+    ensures run { result ≡ prefix_len spec.is_plain bytes.now }
+    ensures within { result ≤ length bytes.now }
+{
+    match bytes.iter().position(|&byte| !is_plain(byte)) {
+        Some(end) => end,
+        None => bytes.len(),
+    }
+}
+
+fn is_plain(byte: u8) -> bool
+    ensures { result ≡ spec.is_plain byte }
+{
+    33 <= byte && byte <= 126 && byte != b'\\'
+}
+
+// Appends the spelling of a byte that doesn't stand for itself.
+fn append_spelling(byte: u8, out: &mut Vec<u8>) -> Result<(), AllocError>
+    requires { spec.is_plain byte ≡ false }
+    ensures written { OnOk result (out.new.items ≡ out.old.items ++ spelling byte) }
+    ensures unchanged { OnErr result (out.new.items ≡ out.old.items) }
+{
+    match byte {
+        b' ' => out.extend_from_slice(b"\\s"),
+        b'\n' => out.extend_from_slice(b"\\n"),
+        b'\r' => out.extend_from_slice(b"\\r"),
+        b'\\' => out.extend_from_slice(b"\\\\"),
+        _ => {
+            let high = hex_digit(u64::from(byte / 16));
+            let low = hex_digit(u64::from(byte % 16));
+            out.extend_from_slice(&[b'\\', b'x', high, low])
+        }
+    }
+}
 
 /// Appends the text that an escaped text is of, and answers true. It answers false exactly where the
 /// word is no escaped text, and `out` is then as before. The format is this project's own.

@@ -48,7 +48,7 @@ pub fn put_hex(n: u64, room: &mut [u8; 64]) -> usize
 }
 
 // The digit in lower case.
-fn hex_digit(digit: u64) -> u8
+pub(crate) fn hex_digit(digit: u64) -> u8
     requires { digit < 16 }
     ensures { result ≡ digit_glyph false digit }
 {

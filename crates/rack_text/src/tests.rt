@@ -230,3 +230,23 @@ fn unescapes_words(rt: HostRuntime) -> Result<(), AllocError> {
     }
     Ok(())
 }
+
+#[test]
+fn escapes_texts(rt: HostRuntime) -> Result<(), AllocError> {
+    for (text, word) in [
+        ("", "\\e"),
+        ("!~09Az[]", "!~09Az[]"),
+        (" ", "\\s"),
+        ("1, 2", "1,\\s2"),
+        ("a\nb\r\\", "a\\nb\\r\\\\"),
+        ("\\e", "\\\\e"),
+        ("\0\t\u{1f}\u{7f}", "\\x00\\x09\\x1f\\x7f"),
+        ("é", "\\xc3\\xa9"),
+    ] {
+        let mut out = Vec::from_slice(rt.alloc(), b"#")?;
+        escape(text.as_bytes(), &mut out)?;
+        assert_eq!(rt; out[0], b'#', "{word}");
+        assert_eq!(rt; &out[1..], word.as_bytes(), "{word}");
+    }
+    Ok(())
+}

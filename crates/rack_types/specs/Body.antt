@@ -34,7 +34,7 @@ pub record Ends (raised : Bool) (old new : Content) : Type 0 where
   pub raises : old.raises ≡ raised
   pub same : new ≡ old
 
--- one `next`, with the piece that `piece` lends behind it
+-- one `next`, with the piece that `piece` lends behind it, of which nothing is said where none was taken
 abbrev pub StepsTo : Result Step AllocError → Content → List ℕ → Content → Type 0
 StepsTo (Ok step.Piece) old piece new = TakesPiece old piece new
 StepsTo (Ok step.End) old piece new = Ends false old new

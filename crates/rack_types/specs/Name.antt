@@ -1,6 +1,5 @@
 -- The bytes of names.
 use Rattle.std.specs.Prelude.{ℕ, List}
-use Rattle.std.specs.Borrow.{Bor}
 use Rattle.rack_types.specs.declared.name.Text.{Text}
 use Rattle.rack_types.specs.declared.name.Text.TheVariants.{Lent, Short, Owned}
 use Rattle.rack_types.specs.declared.name.Given.{Given}

@@ -35,7 +35,8 @@ pub trait Body {
 
     /// Takes the first piece that is left, or tells the end; behind the end it tells the same again.
     ///
-    /// A refused call takes no piece and changes nothing. A body that is `sure` refuses none.
+    /// A refused call takes no piece and leaves what is to come as it was. A body that is `sure` refuses
+    /// none. Behind a call that took no piece, what `piece` lends is not said.
     fn next(&mut self) -> Result<Step, NoMemory>
         ensures { StepsTo result (content self.old) (taken self.new) (content self.new) };
 

@@ -9,7 +9,7 @@ const LARGE: usize = 4_096;
 
 /// Some bytes, of any values, with an owner. A contract sees them as a list of numbers.
 ///
-/// No call of this type takes memory.
+/// No public call of this type takes memory.
 #[derive(Debug, Drop)]
 pub struct Bytes {
     bytes: Vec<u8>,

@@ -91,14 +91,6 @@ impl Env {
         self.table.set(Given::Lent(name), value)
     }
 
-    /// Sets the value of a name as `set` does, and takes both over as they are.
-    pub fn set_owned(&mut self, name: Vec<u8>, value: Vec<u8>) -> Result<(), NoMemory>
-        ensures set { OnOk result (self.new ≡ with_pairs self.old (set_pair name.items value.items self.old.pairs)) }
-        ensures unchanged { OnErr result (self.new ≡ self.old) }
-    {
-        self.table.set_owned(Bytes::new(name), Bytes::new(value))
-    }
-
     /// Lets the value of a name go on with a separator and more bytes. False exactly where the name
     /// isn't there, and then nothing changes.
     ///

@@ -1,4 +1,4 @@
-// Names that are keys of a map: lent for ever, or owned.
+// Names that are keys of a map: lent for ever, in place where they are short, or owned.
 ghost use Rattle.std.specs.Prelude.{◌≡◌, [], ◌∷◌, bytes_eq, IfOk, IfSome};
 ghost use Rattle.rack_types.specs.Name.{given_bytes};
 ghost use Rattle.std.specs.Cmp.{on_equiv, on_per, partial_equiv_from_equiv};

@@ -8,4 +8,5 @@ mod LineLemmas
 mod PlaceLemmas
 mod PullLemmas
 mod ReplyLemmas
+mod SaidLemmas
 mod WorkedRows

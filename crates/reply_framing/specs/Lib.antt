@@ -5,6 +5,7 @@ pub mod Fills
 pub mod Form
 pub mod Framed
 pub mod Framer
+pub mod Hands
 pub mod Head
 pub mod Owes
 pub mod Pull

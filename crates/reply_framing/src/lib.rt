@@ -9,6 +9,7 @@ mod framer;
 mod head;
 mod pull;
 mod reason;
+mod sending;
 mod start;
 #[cfg(test)]
 mod tests;

@@ -1,5 +1,5 @@
 -- What the framer prints in chunks is read as one body in chunks.
-use Rattle.std.proofs.Common.{◌≡◌, ◌≢◌, ℕ, zero, suc, ◌+◌, ◌-◌, ◌*◌, ◌/◌, ◌%◌, ◌^◌, ◌<◌, ◌≤◌, Bool, true, false, ◌==◌, nat_lt, if◌then◌else◌, List, [], ◌∷◌, ◌++◌, length, take, drop, get_or, Option, None, Some, option_map, refl, sym, ap, subst, ◌∙◌, append_assoc, arith, length-append, ◌⊎◌, inl, inr, IsTrue, MatchBool, pow-suc, div-add-mod', mod-lt}
+use Rattle.std.proofs.Common.{◌≡◌, ℕ, zero, suc, ◌+◌, ◌-◌, ◌/◌, ◌%◌, ◌^◌, ◌<◌, ◌≤◌, Bool, true, false, ◌==◌, nat_lt, if◌then◌else◌, List, [], ◌∷◌, ◌++◌, length, take, drop, get_or, Option, None, Some, option_map, refl, sym, ap, subst, ◌∙◌, append_assoc, arith, length-append, inl, inr, IsTrue, MatchBool, pow-suc}
 use Rattle.std.proofs.lemmas.List.{append-nil}
 use Rattle.std.proofs.lemmas.Bool.Decides.{nat_tests}
 use Rattle.std.proofs.Math.Seq.{take-append_seam, drop-append_seam, take-append-add}
@@ -8,11 +8,11 @@ use Rattle.std.specs.Fmt.{digits, digits_onto, digit_glyph}
 use Rattle.std.specs.Char.{digit_value, is_ascii_hexdigit}
 use Rattle.std.specs.Str.Parse.{AllDigits, digits_value}
 use Rattle.std.proofs.lemmas.Fmt.{digits_is_IsNumeral}
-use Rattle.httparse.specs.Grammar.{LineEnd, Field, ReadsSection, ChunkLine, IsChunkLine, ReadsChunkLine, print_chunk_line, crlf}
+use Rattle.httparse.specs.Grammar.{print_chunk_line, crlf}
 use Rattle.rack_types.specs.BodyRules.{Break, body_break, a_piece_later}
 use Rattle.message_framing.specs.HeadText.{empty_line}
 use Rattle.message_framing.specs.Framing.{body_limit}
-use Rattle.message_framing.specs.Chunks.{line_end, size_line_within, trailer_end, trailer_within, has_too_many_fields, NamesSize, IsTrailer, Front, last, chunk_front, SizeFront, LineFront, TrailerFront, TrailerText, FrontIs, ChunksAt}
+use Rattle.message_framing.specs.Chunks.{line_end, size_line_within, trailer_end, has_too_many_fields, NamesSize, Front, last, chunk_front, SizeFront, LineFront, FrontIs, ChunksAt}
 use Rattle.message_framing.specs.Chunks.{chunk as chunk_of}
 use Rattle.reply_framing.specs.declared.types.Form.TheVariants.{Chunked}
 use Rattle.reply_framing.specs.Body.{chunk, wire, last_bytes, bytes_until, body_bytes}

@@ -1,17 +1,17 @@
 -- How what stands becomes an end.
-use Rattle.std.proofs.Common.{◌≡◌, ℕ, suc, ◌+◌, ◌≤◌, ◌≢◌, Bool, true, false, List, [], ◌∷◌, ◌++◌, length, refl, sym, ap, subst, ◌∙◌, append_assoc, arith, length-append, Option, Some, None, ◌⊎◌, inl, inr, ⊎_elim}
+use Rattle.std.proofs.Common.{◌≡◌, ℕ, suc, ◌+◌, List, [], ◌∷◌, ◌++◌, length, refl, sym, ap, subst, ◌∙◌, append_assoc, arith, Option, Some, None, inl, inr, ⊎_elim}
 use Rattle.std.proofs.lemmas.List.{append-nil}
 use Rattle.rack_types.specs.declared.fault.Fault.{Fault}
 use Rattle.rack_types.specs.declared.fault.Fault.TheVariants.{T1}
 use Rattle.rack_types.specs.Request.{Parts}
-use Rattle.message_framing.specs.Request.{Refusal, Wanting, Begun}
+use Rattle.message_framing.specs.Request.{Wanting, Begun}
 use Rattle.reply_framing.specs.declared.types.After.{After}
-use Rattle.reply_framing.specs.declared.types.After.TheVariants.{Keep, Close, Hijack}
+use Rattle.reply_framing.specs.declared.types.After.TheVariants.{Close, Hijack}
 use Rattle.reply_framing.specs.Fault.{fault_reply}
-use Rattle.talk_core.specs.Teller.{Teller, fates_of}
-use Rattle.talk_core.specs.Talk.{Asks, replies_to, Stop, wanting, refused, closed, hijacked}
+use Rattle.talk_core.specs.Teller.{Teller}
+use Rattle.talk_core.specs.Talk.{Asks, replies_to, wanting, refused, closed, hijacked}
 use Rattle.talk_core.specs.Tail.{Voice, tail_of}
-use Rattle.talk_core.specs.Stands.{Word, silent, replies, refuses, times_out, hands_over, asked_by, Stands, IsHijack, ClosesAt, Partly}
+use Rattle.talk_core.specs.Stands.{Word, silent, replies, refuses, times_out, hands_over, asked_by, Stands, IsHijack, ClosesAt}
 use Rattle.talk_core.specs.Ended.{Past, SentWhole, SentWholeTo, Lacks}
 use Rattle.talk_core.proofs.TalkLemmas.{replies_snoc}
 use Rattle.talk_core.proofs.StandsLemmas.{silent_sent, silent_asks, whole_sent, length_snoc}

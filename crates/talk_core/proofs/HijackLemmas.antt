@@ -1,13 +1,12 @@
 -- What stands behind a hijack: the hijacker is told more bytes, or the end.
-use Rattle.std.proofs.Common.{◌≡◌, ℕ, Bool, true, false, if◌then◌else◌, List, [], ◌∷◌, ◌++◌, refl, sym, ap, subst, ◌∙◌, append_assoc}
+use Rattle.std.proofs.Common.{◌≡◌, ℕ, Bool, true, false, if◌then◌else◌, List, [], ◌∷◌, ◌++◌, sym, ap, ◌∙◌, append_assoc}
 use Rattle.std.proofs.lemmas.List.{append-nil}
 use Rattle.hijack_core.specs.declared.hijack.Said.{Said}
-use Rattle.hijack_core.specs.Said.{GoesOnAs, and_then}
+use Rattle.hijack_core.specs.Said.{GoesOnAs}
 use Rattle.rack_types.specs.Request.{Parts}
 use Rattle.talk_core.specs.Teller.{Teller}
-use Rattle.talk_core.specs.Talk.{replies_to}
 use Rattle.talk_core.specs.Tail.{Voice, tail_of}
-use Rattle.talk_core.specs.Stands.{Word, hands_over, asked_by, Stands}
+use Rattle.talk_core.specs.Stands.{hands_over, Stands}
 use Rattle.talk_core.proofs.TalkLemmas.{asks_more}
 
 -- the tail is what was said to the first bytes, and then what the hijacker says that it is behind them

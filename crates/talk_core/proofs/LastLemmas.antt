@@ -1,5 +1,5 @@
 -- The reply to the last request does not keep the connection.
-use Rattle.std.proofs.Common.{◌≡◌, ◌≢◌, ℕ, ◌<◌, ◌-◌, Bool, true, false, not, ◌||◌, ◌==◌, if◌then◌else◌, List, Option, None, Some, refl, sym, ap, subst, ◌∙◌, arith}
+use Rattle.std.proofs.Common.{◌≡◌, ◌≢◌, ℕ, ◌<◌, Bool, true, false, not, ◌||◌, ◌==◌, if◌then◌else◌, List, Option, None, Some, refl, subst, arith}
 use Rattle.std.proofs.lemmas.Bool.Decides.{nat_tests}
 use Rattle.rack_types.specs.declared.answer.Answer.{Answer}
 use Rattle.rack_types.specs.declared.answer.Answer.TheVariants as answer
@@ -14,11 +14,9 @@ use Rattle.rack_types.specs.Headers.{HeaderList}
 use Rattle.rack_types.specs.Request.{Parts}
 use Rattle.rack_env.specs.Environment.{env_pairs}
 use Rattle.reply_framing.specs.declared.types.After.{After}
-use Rattle.reply_framing.specs.declared.types.After.TheVariants.{Keep, Close, Hijack}
+use Rattle.reply_framing.specs.declared.types.After.TheVariants.{Keep, Close}
 use Rattle.reply_framing.specs.declared.types.Ask.{Ask}
-use Rattle.reply_framing.specs.declared.types.Form.{Form}
-use Rattle.reply_framing.specs.Form.{head_after}
-use Rattle.reply_framing.specs.Reply.{WholeReply, body_after, reply, reply_by, sound_reply, body_reply, broken_headers, no_body}
+use Rattle.reply_framing.specs.Reply.{body_after, reply, reply_by, sound_reply, body_reply, broken_headers, no_body}
 use Rattle.talk_core.specs.declared.ended.Life.{Life}
 use Rattle.talk_core.proofs.LawLemmas.{NeverKeeps}
 use Rattle.talk_core.specs.Teller.{Stacks, ask_of, is_closing, is_last, phase_at, tell}
@@ -78,3 +76,11 @@ not_last_below closing k few e = go (k == 9999) (is_closing closing k) refl e
     go : (b c : Bool) → (k == 9999) ≡ b → (b || c) ≡ false → k < 9999
     go true c is e = cc
     go false c is e = grind (arith, nat_tests, is, few)
+
+-- where no reply closes by draining, the last request is the 10,000th
+pub is_last_none : (k : ℕ) → is_last None k ≡ (k == 9999)
+is_last_none k = or_no (k == 9999)
+  where
+    or_no : (b : Bool) → (b || false) ≡ b
+    or_no true = refl
+    or_no false = refl

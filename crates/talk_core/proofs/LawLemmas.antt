@@ -1,23 +1,22 @@
 -- The laws over talks.
-use Rattle.std.proofs.Common.{◌≡◌, ◌≢◌, ℕ, zero, suc, ◌+◌, ◌<◌, ◌≤◌, Bool, true, false, nat_lt, if◌then◌else◌, List, [], ◌∷◌, ◌++◌, length, take, drop, refl, sym, ap, subst, ◌∙◌, append_assoc, arith, Option, Some, None, ◌⊎◌, inl, inr, ⊎_elim, length-append, lt→ltb}
+use Rattle.std.proofs.Common.{◌≡◌, ◌≢◌, ℕ, zero, suc, ◌+◌, ◌<◌, ◌≤◌, Bool, true, nat_lt, if◌then◌else◌, List, [], ◌∷◌, ◌++◌, length, take, drop, refl, sym, ap, subst, ◌∙◌, append_assoc, arith, Option, Some, None, ◌⊎◌, inl, inr, ⊎_elim, length-append}
 use Rattle.std.proofs.lemmas.List.{append-nil, take-append-le, take-append-drop}
 use Rattle.std.proofs.Math.Seq.{take-append_seam}
 use Rattle.std.proofs.lemmas.Bool.Decides.{nat_tests}
-use Rattle.rack_types.specs.declared.fault.Fault.{Fault}
 use Rattle.rack_types.specs.declared.fault.Fault.TheVariants.{T1}
 use Rattle.rack_types.specs.Request.{Parts}
 use Rattle.message_framing.specs.HeadText.{skipped}
-use Rattle.message_framing.specs.Request.{IsRequest, Refusal, Begins, Wanting, Begun}
+use Rattle.message_framing.specs.Request.{Begins, Begun}
 use Rattle.message_framing.proofs.CallerLemmas.{begins_not_refused, refusal_stays}
 use Rattle.reply_framing.specs.declared.types.After.{After}
-use Rattle.reply_framing.specs.declared.types.After.TheVariants.{Keep, Close, Hijack}
+use Rattle.reply_framing.specs.declared.types.After.TheVariants.{Keep, Hijack}
 use Rattle.reply_framing.specs.Fault.{fault_reply}
 use Rattle.hijack_core.specs.Said.{Starts}
 use Rattle.talk_core.specs.Teller.{Fates, Teller, fates_of}
-use Rattle.talk_core.specs.Talk.{Asks, AllKeep, EndsAs, Stop, wanting, refused, closed, hijacked, StopsAs, Talk, IsFinal, replies_to, time_out}
+use Rattle.talk_core.specs.Talk.{Asks, AllKeep, Stop, wanting, refused, closed, hijacked, StopsAs, Talk, replies_to, time_out}
 use Rattle.talk_core.specs.Tail.{Voice, tail_of}
-use Rattle.talk_core.specs.Stands.{Word, silent, replies, refuses, times_out, hands_over, asked_by, text_by, Stands, IsHijack, ClosesAt, Partly}
-use Rattle.talk_core.specs.Laws.{Stays, HandsTo, IsEnding, BeginsTalk, PartlyStands}
+use Rattle.talk_core.specs.Stands.{Word, silent, replies, refuses, times_out, hands_over, asked_by, text_by, Stands, IsHijack, ClosesAt}
+use Rattle.talk_core.specs.Laws.{Stays, HandsTo, IsEnding, PartlyStands}
 use Rattle.talk_core.proofs.TalkLemmas.{asks_more, replies_snoc, replies_append}
 use Rattle.talk_core.proofs.CompareLemmas.{GoesFurther, KeepsFront, keep_at, talk_keeps, asked_begins, answered_begins, stop_unique}
 
@@ -43,7 +42,7 @@ keep_nth fates (r ∷ rs) k (suc j) lt all =
     let n : k + 1 + j ≡ k + suc j = omega arith in
     (q.0, subst (λ (i : ℕ). fates i q.0 ≡ Keep) n q.1)
 
-few_asked : {H : Type 0} (word : Word H) → length (asked_by word) ≤ 1
+pub few_asked : {H : Type 0} (word : Word H) → length (asked_by word) ≤ 1
 few_asked silent = omega arith
 few_asked (replies r) = omega arith
 few_asked (refuses f) = omega arith
@@ -60,7 +59,7 @@ none_behind fates given end asked whole (m ∷ more) r stop t e never =
     absurd (never (subst (λ (i : ℕ). fates i r ≡ Keep) n (keep_at fates whole k.whole k.w more r m 0 k.few (sym k.is ∙ e) k.keeps)))
 
 -- where nothing whole begins nothing is asked
-none_asked : (rest end : List ℕ) (more : List Parts) → ((n : ℕ) (r : Parts) → ¬ (Begins rest n r)) → Asks rest more end → more ≡ []
+pub none_asked : (rest end : List ℕ) (more : List Parts) → ((n : ℕ) (r : Parts) → ¬ (Begins rest n r)) → Asks rest more end → more ≡ []
 none_asked rest end [] none a = refl
 none_asked rest end (m ∷ more) none a = absurd (none (length a.0) m (asked_begins rest m more end a))
 

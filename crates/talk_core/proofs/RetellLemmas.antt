@@ -1,22 +1,19 @@
 -- What stands speaks only of the replies to requests that were run: tellers that agree on these tell the same.
-use Rattle.std.proofs.Common.{◌≡◌, ℕ, zero, suc, ◌+◌, ◌<◌, ◌≤◌, Bool, true, false, List, [], ◌∷◌, ◌++◌, length, refl, sym, ap, subst, ◌∙◌, arith, length-append, Option, Some, None, ◌||◌, inl, inr, ⊎_elim}
+use Rattle.std.proofs.Common.{◌≡◌, ℕ, suc, ◌+◌, ◌<◌, Bool, List, [], ◌∷◌, ◌++◌, length, refl, ap, subst, ◌∙◌, arith, length-append, Option, Some, None, inl, inr, ⊎_elim}
 use Rattle.std.proofs.lemmas.Bool.Decides.{nat_tests}
-use Rattle.rack_types.specs.declared.fault.Fault.{Fault}
 use Rattle.rack_types.specs.declared.peer.Local.{Local}
-use Rattle.rack_types.specs.Env.{Pairs}
 use Rattle.rack_types.specs.Request.{Parts}
 use Rattle.rack_env.specs.Environment.{env_pairs}
 use Rattle.reply_framing.specs.declared.types.After.{After}
 use Rattle.reply_framing.specs.declared.types.After.TheVariants.{Keep, Close, Hijack}
 use Rattle.reply_framing.specs.Reply.{WholeReply}
-use Rattle.talk_core.specs.declared.ended.IdleBy.TheVariants.{Clock, Drain}
 use Rattle.talk_core.specs.declared.ended.Life.{Life}
 use Rattle.talk_core.specs.declared.ended.Why.{Why}
 use Rattle.talk_core.specs.declared.ended.Why.TheVariants as why
-use Rattle.talk_core.specs.Teller.{Stacks, Teller, AgreesBelow, fates_of, is_closing, is_last, phase_at, reply_of, tell}
-use Rattle.talk_core.specs.Talk.{AllKeep, EndsAs, Stop, wanting, refused, closed, hijacked, StopsAs, Talk, replies_to, last_word}
+use Rattle.talk_core.specs.Teller.{Stacks, Teller, AgreesBelow, fates_of, is_last, phase_at, reply_of, tell}
+use Rattle.talk_core.specs.Talk.{AllKeep, EndsAs, Stop, wanting, refused, closed, hijacked, StopsAs, replies_to, last_word}
 use Rattle.talk_core.specs.Tail.{Voice, tail_of}
-use Rattle.talk_core.specs.Stands.{Word, silent, replies, refuses, times_out, hands_over, asked_by, text_by, Fits, Stands, IsHijack, ClosesAt, Partly}
+use Rattle.talk_core.specs.Stands.{Word, silent, replies, refuses, times_out, hands_over, asked_by, text_by, Fits, Stands, IsHijack, Partly}
 use Rattle.talk_core.specs.Ended.{Past, SentWhole, SentWholeTo, Lacks, LacksToHijack, EndsBy}
 use Rattle.talk_core.proofs.EndedLemmas.{closes_for}
 

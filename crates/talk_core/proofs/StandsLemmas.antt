@@ -1,17 +1,16 @@
 -- The steps of what a connection stands for.
-use Rattle.std.proofs.Common.{◌≡◌, ℕ, suc, ◌+◌, Bool, true, List, [], ◌∷◌, ◌++◌, length, refl, sym, ap, subst, ◌∙◌, append_assoc, arith, length-append, Option, Some, None, inl, inr}
+use Rattle.std.proofs.Common.{◌≡◌, ℕ, suc, ◌+◌, Bool, List, [], ◌∷◌, ◌++◌, length, refl, sym, ap, subst, ◌∙◌, append_assoc, arith, length-append, Some}
 use Rattle.std.proofs.lemmas.List.{append-nil}
 use Rattle.rack_types.specs.declared.fault.Fault.{Fault}
 use Rattle.rack_types.specs.declared.fault.Fault.TheVariants.{T1}
 use Rattle.rack_types.specs.Request.{Parts}
 use Rattle.message_framing.specs.Request.{IsRequest, Refusal, Wanting, Begun}
-use Rattle.reply_framing.specs.declared.types.After.TheVariants.{Keep, Close, Hijack}
+use Rattle.reply_framing.specs.declared.types.After.TheVariants.{Keep, Hijack}
 use Rattle.reply_framing.specs.Fault.{fault_reply}
 use Rattle.talk_core.specs.Teller.{Teller, fates_of}
-use Rattle.talk_core.specs.Talk.{Asks, replies_to, wanting, refused, closed, hijacked}
+use Rattle.talk_core.specs.Talk.{Asks, replies_to}
 use Rattle.talk_core.specs.Tail.{Voice, tail_of}
-use Rattle.talk_core.specs.Stands.{Word, silent, replies, refuses, times_out, hands_over, asked_by, Stands, IsHijack, ClosesAt, Partly}
-use Rattle.talk_core.specs.Ended.{Past, SentWhole, SentWholeTo, Lacks}
+use Rattle.talk_core.specs.Stands.{Word, silent, replies, refuses, times_out, hands_over, Stands}
 use Rattle.talk_core.proofs.TalkLemmas.{asks_snoc, asks_more, replies_snoc, keep_snoc}
 
 module _ {H : Type 0} (V : Voice H) (T : Teller H) (over : Bool) where
@@ -23,6 +22,20 @@ module _ {H : Type 0} (V : Voice H) (T : Teller H) (over : Bool) where
   pub silent_sent : (given sent rest : List ℕ) (k : ℕ) (h : Stands V T over given sent k silent rest []) → sent ≡ replies_to T 0 h.whole
   silent_sent given sent rest k h =
       h.sent_is ∙ ap (λ x. replies_to T 0 h.whole ++ x) (sym (append-nil h.part) ∙ h.part_is) ∙ append-nil (replies_to T 0 h.whole)
+
+  -- while nothing is said, the peer's end changes nothing
+  pub silent_over : (then_over : Bool) (given sent rest lacks : List ℕ) (k : ℕ) → Stands V T over given sent k silent rest lacks
+      → Stands V T then_over given sent k silent rest lacks
+  silent_over then_over given sent rest lacks k h = record {
+    whole = h.whole;
+    count = h.count;
+    asks = h.asks;
+    keeps = h.keeps;
+    part = h.part;
+    sent_is = h.sent_is;
+    part_is = h.part_is;
+    fits = tt;
+  }
 
   pub silent_asks : (given sent rest : List ℕ) (k : ℕ) (h : Stands V T over given sent k silent rest []) → Asks given h.whole rest
   silent_asks given sent rest k h = subst (λ (rs : List Parts). Asks given rs rest) (append-nil h.whole) h.asks

@@ -1,17 +1,17 @@
 -- Definitions worked out by computation.
-use Rattle.std.proofs.Common.{◌≡◌, ℕ, Bool, true, false, List, [], ◌∷◌, ◌++◌, Option, Some, None, codes, refl}
-use Rattle.hijack_core.specs.declared.hijack.Said.{Said}
+use Rattle.std.proofs.Common.{◌≡◌, ℕ, Bool, true, false, List, [], ◌∷◌, ◌++◌, Some, None, codes, refl, arith}
 use Rattle.rack_types.specs.declared.fault.Fault.TheVariants.{F, T1}
 use Rattle.rack_types.specs.declared.limits.Version.{Version}
 use Rattle.rack_types.specs.declared.limits.Version.TheVariants.{Http10, Http11}
 use Rattle.rack_types.specs.Request.{Parts}
 use Rattle.message_framing.specs.HeadText.{skipped}
+use Rattle.message_framing.specs.Request.{IsRequest}
 use Rattle.reply_framing.specs.declared.types.After.TheVariants.{Keep, Close}
 use Rattle.reply_framing.specs.Fault.{fault_reply}
 use Rattle.talk_core.specs.declared.ended.Life.{Life}
-use Rattle.talk_core.specs.Asked.{fates_by_request}
+use Rattle.talk_core.specs.Asked.{fates_by_request, AllButLastKeep, IsAsked}
 use Rattle.talk_core.specs.Tail.{Voice, tail_of, goes_on}
-use Rattle.talk_core.specs.Talk.{wanting, refused, closed, hijacked, text, time_out, timed_text}
+use Rattle.talk_core.specs.Talk.{wanting, refused, text, time_out, timed_text}
 use Rattle.talk_core.specs.Teller.{Teller, phase_at, is_last, ask_of}
 
 -- lives: one from the start; a second from request 2; a third from request 5
@@ -70,6 +70,26 @@ closes_at_the_last = refl
 
 closes_by_draining : fates_by_request (Some 4) 4 (get Http11) ≡ Close
 closes_by_draining = refl
+
+-- what a reply has to know of its request
+asks_with_get : ask_of (get Http11) ≡ record { head = false; version = Http11; persists = true }
+asks_with_get = refl
+
+asks_with_head : ask_of (record (get Http10) { method = codes "HEAD" }) ≡ record { head = true; version = Http10; persists = false }
+asks_with_head = refl
+
+-- one request was asked, whether it closes or not; of two the first does not close
+asked_one : (front rest : List ℕ) → IsRequest front (get Http10) → IsAsked None (front ++ rest) 1 (get Http10 ∷ []) rest
+asked_one front rest is = record { asks = (front, rest, refl, is, refl); calls_is = refl; goes_on = tt; closes = tt }
+
+asked_in_11 : AllButLastKeep (fates_by_request None) 0 (get Http11 ∷ get Http10 ∷ [])
+asked_in_11 = (refl, tt)
+
+asked_behind_10 : ¬ (AllButLastKeep (fates_by_request None) 0 (get Http10 ∷ get Http11 ∷ []))
+asked_behind_10 e = let both : Close ≡ Keep = e.0 in cc
+
+asked_uncounted : (given rest : List ℕ) → ¬ (IsAsked None given 0 (get Http11 ∷ []) rest)
+asked_uncounted given rest e = omega (arith, e.calls_is)
 
 -- each reply is the request's number
 abbrev numbers : Teller ℕ

@@ -1,5 +1,5 @@
 -- The requests that were asked on a connection, counted by what they say themselves, whoever answers them.
-use Rattle.std.specs.Prelude.{◌≡◌, ℕ, ◌+◌, Bool, not, ◌&&◌, if◌then◌else◌, List, [], ◌∷◌, length, Option, ⊤}
+use Rattle.std.specs.Prelude.{◌≡◌, ℕ, ◌+◌, not, ◌&&◌, if◌then◌else◌, List, [], ◌∷◌, length, Option, ⊤}
 use Rattle.rack_types.specs.Fields.{persists}
 use Rattle.rack_types.specs.Request.{Parts}
 use Rattle.reply_framing.specs.declared.types.After.TheVariants.{Keep, Close}

@@ -1,5 +1,5 @@
 -- Laws over talks.
-use Rattle.std.specs.Prelude.{◌≡◌, ◌≢◌, ℕ, ◌<◌, ◌≤◌, Bool, false, List, [], ◌∷◌, ◌++◌, length, take, Option, None, Some, ◌⊎◌}
+use Rattle.std.specs.Prelude.{◌≡◌, ℕ, ◌<◌, ◌≤◌, Bool, false, List, [], ◌∷◌, ◌++◌, length, take, Option, None, Some, ◌⊎◌}
 use Rattle.std.specs.List.{concat}
 use Rattle.rack_types.specs.Request.{Parts}
 use Rattle.rack_types.specs.Limits.{stock_limits}
@@ -10,7 +10,7 @@ use Rattle.reply_framing.specs.Body.{body_bytes}
 use Rattle.reply_framing.specs.Fault.{fault_reply}
 use Rattle.talk_core.specs.Stands.{Word, Partly, ClosesAt}
 use Rattle.talk_core.specs.Tail.{Voice, tail_of}
-use Rattle.talk_core.specs.Talk.{Stop, wanting, refused, closed, hijacked, Talk, IsFinal, replies_to, last_word, time_out}
+use Rattle.talk_core.specs.Talk.{Stop, wanting, refused, closed, hijacked, Talk, IsFinal, replies_to, time_out}
 use Rattle.talk_core.specs.Teller.{Fates, Teller, fates_of}
 
 -- at most one talk is on these bytes

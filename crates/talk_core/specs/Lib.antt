@@ -1,4 +1,5 @@
 pub mod Asked
+pub mod Counts
 pub mod Ended
 pub mod Laws
 pub mod Stands

@@ -1,6 +1,6 @@
 -- What a connection stands for at each moment: which requests it answered whole, what it is saying, and what of it
 -- is still lacking.
-use Rattle.std.specs.Prelude.{◌≡◌, ℕ, suc, ◌+◌, ◌≤◌, Bool, true, List, [], ◌∷◌, ◌++◌, length, Option, None, Some, ◌⊎◌, ⊤}
+use Rattle.std.specs.Prelude.{◌≡◌, ℕ, ◌+◌, Bool, List, [], ◌∷◌, ◌++◌, length, Option, None, Some, ◌⊎◌, ⊤}
 use Rattle.rack_types.specs.declared.fault.Fault.{Fault}
 use Rattle.rack_types.specs.declared.fault.Fault.TheVariants.{T1}
 use Rattle.rack_types.specs.Request.{Parts}
@@ -64,6 +64,14 @@ IsHijack {H} T k (replies r) = (T k r).after ≡ Hijack
 IsHijack {H} T k (refuses f) = ⊥
 IsHijack {H} T k times_out = ⊥
 IsHijack {H} T k (hands_over r h) = ⊤
+
+-- the word is nothing, a reply or a refusal
+abbrev pub IsPlain : {H : Type 0} → Word H → Type 0
+IsPlain {H} silent = ⊤
+IsPlain {H} (replies r) = ⊤
+IsPlain {H} (refuses f) = ⊤
+IsPlain {H} times_out = ⊥
+IsPlain {H} (hands_over r h) = ⊥
 
 -- where a reply closes by draining, it is that of the last request, and no byte stands behind that request unless
 -- its reply is a hijack

@@ -1,5 +1,5 @@
 -- What a hijacker says on a connection that it took over, which is this project's own.
-use Rattle.std.specs.Prelude.{◌≡◌, ℕ, Bool, true, false, if◌then◌else◌, List, [], ◌++◌}
+use Rattle.std.specs.Prelude.{ℕ, Bool, false, if◌then◌else◌, List, [], ◌++◌}
 use Rattle.hijack_core.specs.declared.hijack.Said.{Said}
 
 -- what hijackers say to the bytes that come, and at the end behind them

@@ -9,7 +9,7 @@ use Rattle.message_framing.specs.Request.{IsRequest, Refusal, Wanting}
 use Rattle.reply_framing.specs.declared.types.After.{After}
 use Rattle.reply_framing.specs.declared.types.After.TheVariants.{Keep, Close, Hijack}
 use Rattle.reply_framing.specs.Fault.{fault_reply}
-use Rattle.talk_core.specs.Teller.{Teller, Fates, fates_of}
+use Rattle.talk_core.specs.Teller.{Teller, Fates}
 
 -- b is these requests, one behind the other, and then the rest
 abbrev pub Asks : List ℕ → List Parts → List ℕ → Type 0

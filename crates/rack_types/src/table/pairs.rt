@@ -129,25 +129,6 @@ impl Table {
         }
     }
 
-    /// Sets the value of a name, and takes both over.
-    pub(crate) fn set_owned(&mut self, name: Bytes, value: Bytes) -> Result<(), NoMemory>
-        ensures set { OnOk result (standing self.new ≡ set_pair name value (standing self.old)) }
-        ensures unchanged { OnErr result (standing self.new ≡ standing self.old) }
-    {
-        match self.place(name.get()) {
-            Some(i) => {
-                let slot = self.map.get_index_mut(i).unwrap();
-                *slot = value;
-                self.stand(i);
-                Ok(())
-            }
-            None => {
-                let _former = self.spare();
-                self.put(Name::owned(name), value)
-            }
-        }
-    }
-
     /// Lets the value of a name go on with a separator and more, or sets it to that.
     pub(crate) fn add(
         &mut self,

@@ -1,10 +1,15 @@
-use Rattle.std.proofs.Common.{◌≡◌, ◌<◌, length, take, Option, List, ℕ, sym, ◌∙◌, arith, length-take-le}
+use Rattle.std.proofs.Common.{length, take, ap, sym, ◌∙◌, arith, length-take-le}
+use Rattle.std.proofs.Math.Seq.{take-append_seam}
 use Rattle.rack_outside.specs.Source.{IsPrefix}
 use Rattle.rack_outside.proofs.LinkLemmas.{still_whole}
 use Rattle.rack_outside.proofs.pair_link.PairLinkLink.read.Goals as goal
 
 pub invariant_of-self : goal.invariant_of-self
 invariant_of-self g c = record {
+  front = λ xs ys e d.
+      let prefix : IsPrefix (g.S.Source.given c.read.new.self) (g.S.Source.input c.args.self.now.source.now) = c.in-Bytes.ensures.gives.3 in
+      let p = prefix xs ys e (sym c.read.ensures.same ∙ d) in
+      ap (take (length xs)) p.1 ∙ take-append_seam xs p.0;
   whole = λ over.
       let gives = c.in-Bytes.ensures.gives in
       let room = c.read.new.room in

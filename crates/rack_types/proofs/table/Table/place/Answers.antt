@@ -1,4 +1,4 @@
-use Rattle.std.proofs.Common.{◌≤◌, ◌<◌, ◌∙◌, arith}
+use Rattle.std.proofs.Common.{◌∙◌, arith}
 use Rattle.rack_types.proofs.TableLemmas.{absent_take, first_at, first_entry}
 use Rattle.rack_types.proofs.table.Table.place.Goals as goal
 

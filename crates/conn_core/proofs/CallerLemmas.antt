@@ -1,0 +1,120 @@
+-- What crates above may cite: lemmas over the public definitions.
+use Rattle.std.proofs.Common.{◌≡◌, ◌≢◌, ℕ, zero, suc, ◌+◌, ◌-◌, ◌^◌, ◌<◌, ◌≤◌, min, Bool, List, length, refl, sym, ap, subst, ◌∙◌, arith, Option, None, Some}
+use Rattle.rack_types.specs.declared.body.Body.{Ghosts}
+use Rattle.rack_outside.specs.Link.{Seen}
+use Rattle.message_framing.specs.declared.intake.Intake.{Intake}
+use Rattle.talk_core.specs.Counts.{counted_by}
+use Rattle.talk_core.specs.declared.ended.Why.{Why}
+use Rattle.talk_core.specs.Ended.{Shows}
+use Rattle.talk_core.specs.Tail.{Voice}
+use Rattle.talk_core.specs.Teller.{Stacks, Teller, tell}
+use Rattle.conn_core.specs.declared.conn.Conn.{Conn}
+use Rattle.conn_core.specs.declared.place.At.{At}
+use Rattle.conn_core.specs.declared.place.At.TheVariants as at
+use Rattle.conn_core.specs.declared.state.State.{State}
+use Rattle.conn_core.specs.declared.state.State.TheVariants as state
+use Rattle.conn_core.specs.Holds.{kept, past, Holds, HoldsAt}
+use Rattle.conn_core.specs.Place.{state_at}
+use Rattle.conn_core.specs.Plain.{EndsPlainly}
+use Rattle.conn_core.specs.Rests.{RestsAt}
+use Rattle.conn_core.specs.Shown.{Shown, Moved, shown, link_of, why_at}
+use Rattle.conn_core.proofs.ShownLemmas.{counted_sum}
+use Rattle.conn_core.proofs.ConnLemmas.{live_part}
+use Rattle.conn_core.proofs.MovedLemmas.{moved_same}
+use Rattle.conn_core.proofs.TurnLemmas.{no_why_at}
+pub use Rattle.conn_core.proofs.ConnLemmas.{Part}
+pub use Rattle.conn_core.proofs.MovedLemmas.{moved_then, ends_then}
+
+-- what no call leaves
+pub moved_none : (o : Shown) (s : Seen) → Moved o o s s 0 0
+moved_none o s = moved_same o o s 0 0 (record { peer = refl; local = refl; lives = refl; taken = refl }) refl refl
+
+-- how many bytes were taken
+pub taken_by : (n t : ℕ) → t < 2 ^ 64 → counted_by n t ≡ min (t + n) (2 ^ 64 - 1)
+taken_by zero t fits = omega (arith, fits)
+taken_by (suc n) t fits = let some : 0 < suc n = omega arith in counted_sum (suc n) t some
+
+-- a connection that isn't over names no why
+pub unended : {L B H : Type 0} {g : Ghosts B} (c : Conn L B H g) (s : State) → (shown c).state ≡ s → s ≢ state.Over → (shown c).why ≡ None
+unended {L} {B} {H} {g} c s e h = no_why_at c.inside.value.at s e h
+
+few_at : {B H : Type 0} (a : At B H) (intake : Intake) (held ring : List ℕ) (calls : ℕ) → RestsAt a intake held ring calls
+    → state_at a ≡ state.Ready → calls < 10000
+few_at {B} {H} at.Reading intake held ring calls h e = cc
+few_at {B} {H} at.Asked intake held ring calls h e = h.1.0
+few_at {B} {H} (at.Refused f) intake held ring calls h e = h.1
+few_at {B} {H} (at.Answering f) intake held ring calls h e = cc
+few_at {B} {H} (at.Writing keeps) intake held ring calls h e = cc
+few_at {B} {H} at.Refusing intake held ring calls h e = cc
+few_at {B} {H} (at.Over w) intake held ring calls h e = cc
+
+-- where a request stands, fewer than 10,000 were run
+pub few_calls : {L B H : Type 0} {g : Ghosts B} (c : Conn L B H g) → (shown c).state ≡ state.Ready → (shown c).calls < 10000
+few_calls {L} {B} {H} {g} c e =
+    let p = c.inside.value in few_at p.at p.intake p.held p.ring.items p.calls p.rests e
+
+live_at : {B H : Type 0} (a : At B H) → state_at a ≢ state.Hijacked
+live_at {B} {H} at.Reading = λ e. cc
+live_at {B} {H} at.Asked = λ e. cc
+live_at {B} {H} (at.Refused f) = λ e. cc
+live_at {B} {H} (at.Answering f) = λ e. cc
+live_at {B} {H} (at.Writing keeps) = λ e. cc
+live_at {B} {H} at.Refusing = λ e. cc
+live_at {B} {H} (at.Over w) = λ e. cc
+
+-- no hijacker takes a connection over
+pub untaken : {L B H : Type 0} {g : Ghosts B} (c : Conn L B H g) → (shown c).state ≢ state.Hijacked
+untaken {L} {B} {H} {g} c = live_at c.inside.value.at
+
+over_at : {B H : Type 0} (a : At B H) (w : Why) → why_at a ≡ Some w → a ≡ at.Over w
+over_at {B} {H} at.Reading w e = cc
+over_at {B} {H} at.Asked w e = cc
+over_at {B} {H} (at.Refused f) w e = cc
+over_at {B} {H} (at.Answering f) w e = cc
+over_at {B} {H} (at.Writing keeps) w e = cc
+over_at {B} {H} at.Refusing w e = cc
+over_at {B} {H} (at.Over v) w e = cc
+
+-- how a connection ended that has this peer, with what its link tells
+pub record EndsAt {H : Type 0} (s : Seen) (peer : List ℕ) (V : Voice H) (T : Teller H) (calls : ℕ) (ended : Why) : Type 0 where
+  pub given : List ℕ
+  pub sent : List ℕ
+  pub over : Bool
+  pub shows : Shows s peer given sent over
+  pub ends : EndsPlainly ended V T (past s calls given sent over)
+
+pub ends_at : {L B H : Type 0} {g : Ghosts B} (seen : L → Seen) (V : Voice H) (S : Stacks H) (c : Conn L B H g) (w : Why)
+    → (shown c).why ≡ Some w → Holds seen V S c
+    → EndsAt (seen (link_of c)) (shown c).peer V (tell S (shown c).lives (shown c).local (shown c).peer None) (shown c).calls w
+ends_at {L} {B} {H} {g} seen V S c w e h =
+    let T : Teller H = tell S (shown c).lives (shown c).local (shown c).peer None in
+    let i = h.stands in
+    record {
+      given = i.given;
+      sent = i.sent;
+      over = i.over;
+      shows = i.shows;
+      ends = subst (λ (a : At B H). HoldsAt a V T (seen c.link) i.over i.given i.sent (kept c.inside.value)) (over_at c.inside.value.at w e) i.at;
+    }
+
+-- what a connection that has this peer stands for while it lives
+pub record PartAt {H : Type 0} (s : Seen) (peer : List ℕ) (V : Voice H) (T : Teller H) (calls : ℕ) : Type 0 where
+  pub given : List ℕ
+  pub sent : List ℕ
+  pub over : Bool
+  pub shows : Shows s peer given sent over
+  pub part : Part V T over given sent calls
+
+pub part_at : {L B H : Type 0} {g : Ghosts B} (seen : L → Seen) (V : Voice H) (S : Stacks H) (c : Conn L B H g)
+    → (shown c).state ≢ state.Over → Holds seen V S c
+    → PartAt (seen (link_of c)) (shown c).peer V (tell S (shown c).lives (shown c).local (shown c).peer None) (shown c).calls
+part_at {L} {B} {H} {g} seen V S c live h =
+    let T : Teller H = tell S (shown c).lives (shown c).local (shown c).peer None in
+    let i = h.stands in
+    record {
+      given = i.given;
+      sent = i.sent;
+      over = i.over;
+      shows = i.shows;
+      part = live_part c.inside.value.at V T (seen c.link) i.over i.given i.sent (kept c.inside.value) live i.at;
+    }

@@ -1,0 +1,93 @@
+-- What stands behind the bytes held, once they were fed.
+use Rattle.std.proofs.Common.{◌≡◌, ℕ, ◌+◌, ◌<◌, Bool, List, [], ◌++◌, length, take, drop, refl, sym, ap, subst, ◌∙◌, append_assoc, arith}
+use Rattle.std.proofs.lemmas.List.{append-nil, take-append-drop}
+use Rattle.rack_outside.specs.Link.{Seen}
+use Rattle.message_framing.specs.declared.intake.Feed.TheVariants as feed
+use Rattle.message_framing.specs.declared.intake.Intake.{Intake}
+use Rattle.message_framing.specs.Intake.{Fed, AnswersRightly, RefusesMemory}
+use Rattle.talk_core.specs.declared.ended.Why.TheVariants as why
+use Rattle.talk_core.specs.Stands.{Stands, silent}
+use Rattle.talk_core.specs.Tail.{Voice}
+use Rattle.talk_core.specs.Teller.{Teller}
+use Rattle.conn_core.specs.declared.place.At.{At}
+use Rattle.conn_core.specs.declared.place.At.TheVariants as at
+use Rattle.conn_core.specs.Holds.{Kept, past, HoldsAt}
+use Rattle.conn_core.specs.Plain.{EndsPlainly}
+use Rattle.conn_core.specs.Rests.{RestsAt}
+use Rattle.conn_core.specs.Steps.{FeedsHeld}
+
+-- the parts that an intake and the bytes held make where nothing is owed
+abbrev pub fed_kept : Intake → List ℕ → ℕ → Kept
+fed_kept intake held calls = record { intake = intake; held = held; ring = []; calls = calls }
+
+-- between replies, with want of memory
+pub silent_lacks : {H : Type 0} (V : Voice H) (T : Teller H) (s : Seen) (over : Bool) (given sent rest : List ℕ) (calls : ℕ)
+    → Stands V T over given sent calls silent rest [] → EndsPlainly why.NoMemory V T (past s calls given sent over)
+silent_lacks {H} V T s over given sent rest calls h =
+    let n : calls ≡ calls + 0 = omega arith in
+    ([], record { word = silent; plain = tt; partly = record { k = calls; rest = rest; calls_is = n; stands = h; closes = tt } })
+
+module _ {B H : Type 0} (V : Voice H) (T : Teller H) (s : Seen) (over : Bool) (given sent : List ℕ) (old new : Intake) (held left : List ℕ)
+    (calls : ℕ) (now : List ℕ) where
+  pub feeds_hold : (a : At B H) → FeedsHeld old held new left a → Fed old now → Stands V T over given sent calls silent (now ++ held) []
+      → HoldsAt a V T s over given sent (fed_kept new left calls)
+  feeds_hold at.Reading f fed h =
+      let rest : now ++ held ≡ (now ++ held) ++ left = sym (ap (λ x. (now ++ held) ++ x) f.1 ∙ append-nil (now ++ held)) in (
+        now ++ held,
+        f.0.right now fed,
+        f.1,
+        record {
+          fed = f.0.holds now fed;
+          ring = refl;
+          stands = subst (λ (x : List ℕ). Stands V T over given sent calls silent x []) rest h;
+        },
+      )
+  feeds_hold at.Asked f fed h =
+      let n = f.0 in
+      let parts : now ++ held ≡ (now ++ take n held) ++ left =
+      ap (λ x. now ++ x) (sym (take-append-drop n held)) ∙ sym (append_assoc now (take n held) (drop n held))
+      ∙ ap (λ x. (now ++ take n held) ++ x) (sym f.2) in (
+        now ++ take n held,
+        (f.1.right now fed).1.0,
+        (f.1.right now fed).1.1,
+        record {
+          fed = f.1.holds now fed;
+          ring = refl;
+          stands = subst (λ (x : List ℕ). Stands V T over given sent calls silent x []) parts h;
+        },
+      )
+  feeds_hold (at.Refused fault) f fed h =
+      let rest : now ++ held ≡ (now ++ held) ++ left = sym (ap (λ x. (now ++ held) ++ x) f.1 ∙ append-nil (now ++ held)) in (
+        now ++ held,
+        f.0.right now fed,
+        f.1,
+        record {
+          fed = f.0.holds now fed;
+          ring = refl;
+          stands = subst (λ (x : List ℕ). Stands V T over given sent calls silent x []) rest h;
+        },
+      )
+  feeds_hold (at.Answering framer) f fed h = absurd f
+  feeds_hold (at.Writing keeps) f fed h = absurd f
+  feeds_hold at.Refusing f fed h = absurd f
+  feeds_hold (at.Over why.Closed) f fed h = absurd f
+  feeds_hold (at.Over why.PeerEnd) f fed h = absurd f
+  feeds_hold (at.Over (why.Idle by)) f fed h = absurd f
+  feeds_hold (at.Over (why.TimedOut since moment)) f fed h = absurd f
+  feeds_hold (at.Over (why.Stalled since moment)) f fed h = absurd f
+  feeds_hold (at.Over (why.Unread level)) f fed h = absurd f
+  feeds_hold (at.Over why.ReadFailed) f fed h = absurd f
+  feeds_hold (at.Over why.WriteFailed) f fed h = absurd f
+  feeds_hold (at.Over (why.Halted level)) f fed h = absurd f
+  feeds_hold (at.Over why.NoMemory) f fed h = silent_lacks V T s over given sent (now ++ held) calls h
+  feeds_hold (at.Over why.Hijacked) f fed h = absurd f
+
+pub feeds_rest : {B H : Type 0} (a : At B H) (old new : Intake) (held left : List ℕ) (calls : ℕ) → FeedsHeld old held new left a
+    → calls < 10000 → RestsAt a new left [] calls
+feeds_rest {B} {H} at.Reading old new held left calls f few = (f.1, (refl, few))
+feeds_rest {B} {H} at.Asked old new held left calls f few = (refl, (few, f.1.whole))
+feeds_rest {B} {H} (at.Refused fault) old new held left calls f few = (refl, few)
+feeds_rest {B} {H} (at.Answering framer) old new held left calls f few = absurd f
+feeds_rest {B} {H} (at.Writing keeps) old new held left calls f few = absurd f
+feeds_rest {B} {H} at.Refusing old new held left calls f few = absurd f
+feeds_rest {B} {H} (at.Over ended) old new held left calls f few = tt

@@ -1,0 +1,172 @@
+-- What stands once the ring was filled.
+use Rattle.std.proofs.Common.{◌≡◌, ◌≢◌, ◌↔◌, ℕ, suc, ◌+◌, ◌-◌, ◌<◌, ◌≤◌, Bool, true, false, IsTrue, List, [], ◌++◌, length, refl, sym, ap, subst, ◌∙◌, arith, length-append, Option, None, Some, Result, Ok, Err}
+use Rattle.std.proofs.lemmas.List.{append-nil}
+use Rattle.std.specs.declared.alloc.AllocError.{AllocError}
+use Rattle.circular_buffer.specs.Buffer.{Buffer}
+use Rattle.rack_types.specs.declared.rules.BodyRule.{BodyRule}
+use Rattle.rack_types.specs.Request.{Parts}
+use Rattle.rack_outside.specs.Link.{Seen}
+use Rattle.message_framing.specs.declared.intake.Intake.{Intake}
+use Rattle.reply_framing.specs.declared.types.After.{After}
+use Rattle.reply_framing.specs.declared.types.After.TheVariants.{Keep, Close, Hijack}
+use Rattle.reply_framing.specs.declared.types.Filled.{Filled}
+use Rattle.reply_framing.specs.declared.types.Filled.TheVariants.{Full, Done, Broke}
+use Rattle.reply_framing.specs.Coming.{Coming, Rest}
+use Rattle.reply_framing.specs.Fills.{Fills, after_then}
+use Rattle.reply_framing.specs.Owes.{Owes}
+use Rattle.reply_framing.specs.Reply.{WholeReply, body_after}
+use Rattle.reply_framing.proofs.CallerLemmas.{owes_fill, after_done, after_broke, fill_moves}
+use Rattle.talk_core.specs.declared.ended.Why.TheVariants as why
+use Rattle.talk_core.specs.Stands.{Stands, replies}
+use Rattle.talk_core.specs.Tail.{Voice}
+use Rattle.talk_core.specs.Teller.{Teller}
+use Rattle.conn_core.specs.declared.place.At.{At}
+use Rattle.conn_core.specs.declared.place.At.TheVariants as at
+use Rattle.conn_core.specs.declared.state.State.TheVariants as state
+use Rattle.conn_core.specs.Holds.{Kept, past, Replying, HoldsAt, StandsAt}
+use Rattle.conn_core.specs.Inner.{IsFilledAt}
+use Rattle.conn_core.specs.Place.{IsSaying, state_at}
+use Rattle.conn_core.specs.Rests.{GoesOn, RestsAt, after_of}
+use Rattle.conn_core.specs.Shown.{owed_at, replied_at, why_at}
+use Rattle.conn_core.specs.Steps.{Written, FillsFrom, FillsTo}
+use Rattle.conn_core.proofs.BeginLemmas.{unsaid}
+use Rattle.conn_core.proofs.SayLemmas.{with_ring}
+
+-- whether the connection goes on, as it is told
+keeps_as : (new : After) (keeps : Bool) → (IsTrue keeps ↔ (new ≡ Keep)) → new ≢ Hijack → after_of keeps ≡ new
+keeps_as Keep true e untaken = refl
+keeps_as Keep false e untaken = absurd (cc (e.1 refl))
+keeps_as Close true e untaken = absurd (cc (e.0 refl))
+keeps_as Close false e untaken = refl
+keeps_as Hijack true e untaken = absurd (untaken refl)
+keeps_as Hijack false e untaken = absurd (untaken refl)
+
+-- behind the last fill `after` is what the reply tells, over what was to come
+after_by_rule : {H : Type 0} (f new : Coming H) (result : Filled) (x y : Buffer ℕ) → result ≢ Full → Fills f.rest (Ok result) new.rest x y
+    → new.after ≡ after_then (Ok result) f.after → new.after ≡ body_after f.rest.rule f.after
+after_by_rule {H} f new Full x y unfilled fills after = absurd (unfilled refl)
+after_by_rule {H} f new Done x y unfilled fills after =
+    after ∙ ap (λ (o : Option BodyRule). body_after o f.after) (sym (sym fills.rule ∙ fills.answer.1))
+after_by_rule {H} f new (Broke rule) x y unfilled fills after =
+    after ∙ ap (λ (o : Option BodyRule). body_after o f.after) (sym (sym fills.rule ∙ fills.answer.1))
+
+none_left : {H : Type 0} (new : Coming H) (o : Rest) (result : Filled) (x y : Buffer ℕ) → result ≢ Full → Fills o (Ok result) new.rest x y
+    → new.rest.bytes ≡ []
+none_left {H} new o Full x y unfilled fills = absurd (unfilled refl)
+none_left {H} new o Done x y unfilled fills = fills.answer.0
+none_left {H} new o (Broke rule) x y unfilled fills = fills.answer.0
+
+-- all that was to come is in the ring
+pub written_ring : {H : Type 0} (f : Coming H) (x y : Buffer ℕ) (keeps : Bool) → Written f x keeps y → y.items ≡ x.items ++ f.rest.bytes
+written_ring {H} f x y keeps w =
+    sym (ap (λ z. y.items ++ z) (none_left w.new f.rest w.result x y w.unfilled w.fills) ∙ append-nil y.items)
+    ∙ fill_moves f.rest w.new.rest (Ok w.result) x y w.fills
+
+module _ {B H : Type 0} (V : Voice H) (T : Teller H) (s : Seen) (over : Bool) (given sent : List ℕ) (c : Kept) (f : Coming H) (x y : Buffer ℕ)
+    (ring_is : c.ring ≡ x.items) where
+  -- a fill of the framer
+  fills_from : (b : At B H) → FillsFrom f x b y → HoldsAt {B = B} (at.Answering f) V T s over given sent c
+      → HoldsAt b V T s over given sent (with_ring c y.items)
+  fills_from at.Reading e h = absurd e
+  fills_from at.Asked e h = absurd e
+  fills_from (at.Refused fault) e h = absurd e
+  fills_from (at.Answering new) e h =
+      let moved : c.ring ++ f.rest.bytes ≡ y.items ++ new.rest.bytes =
+      ap (λ z. z ++ f.rest.bytes) ring_is ∙ sym (fill_moves f.rest new.rest (Ok Full) x y e.0) in (
+        h.0,
+        h.1,
+        h.2 ++ e.0.appends.sent,
+        owes_fill f new (T h.0 h.1) h.2 (Ok Full) x y h.3 e.0 e.1 e.2,
+        record {
+          count = h.4.count;
+          stands = subst (λ (z : List ℕ). Stands V T over given sent h.0 (replies h.1) c.held z) moved h.4.stands;
+        },
+      )
+  fills_from (at.Writing keeps) e h =
+      let moved : c.ring ++ f.rest.bytes ≡ y.items ++ [] =
+      ap (λ z. z ++ f.rest.bytes) ring_is ∙ sym (written_ring f x y keeps e) ∙ sym (append-nil y.items) in (
+        h.0,
+        h.1,
+        keeps_as e.new.after keeps e.keeps_is e.untaken ∙ after_by_rule f e.new e.result x y e.unfilled e.fills e.after_is
+            ∙ ap (λ (o : Option BodyRule). body_after o f.after) h.3.rule ∙ h.3.after,
+        record {
+          count = h.4.count;
+          stands = subst (λ (z : List ℕ). Stands V T over given sent h.0 (replies h.1) c.held z) moved h.4.stands;
+        },
+      )
+  fills_from at.Refusing e h = absurd e
+  fills_from (at.Over why.Closed) e h = absurd e
+  fills_from (at.Over why.PeerEnd) e h = absurd e
+  fills_from (at.Over (why.Idle by)) e h = absurd e
+  fills_from (at.Over (why.TimedOut since moment)) e h = absurd e
+  fills_from (at.Over (why.Stalled since moment)) e h = absurd e
+  fills_from (at.Over (why.Unread level)) e h = absurd e
+  fills_from (at.Over why.ReadFailed) e h = absurd e
+  fills_from (at.Over why.WriteFailed) e h = absurd e
+  fills_from (at.Over (why.Halted level)) e h = absurd e
+  fills_from (at.Over why.NoMemory) e h = unsaid V T s over given sent c h.0 h.1 f.rest.bytes h.4
+  fills_from (at.Over why.Hijacked) e h = absurd e
+
+same_ring : {B H : Type 0} (V : Voice H) (T : Teller H) (s : Seen) (over : Bool) (given sent : List ℕ) (c : Kept) (x y : Buffer ℕ) → c.ring ≡ x.items
+    → (a b : At B H) → b ≡ a → y ≡ x → HoldsAt a V T s over given sent c → HoldsAt b V T s over given sent (with_ring c y.items)
+same_ring {B} {H} V T s over given sent c x y ring_is a b e same h =
+    let ring : c.ring ≡ y.items = ring_is ∙ ap (λ (z : Buffer ℕ). z.items) (sym same) in
+    subst (λ (z : List ℕ). HoldsAt b V T s over given sent (with_ring c z)) ring
+    (subst (λ (d : At B H). HoldsAt d V T s over given sent c) (sym e) h)
+
+fills_at : {B H : Type 0} (V : Voice H) (T : Teller H) (s : Seen) (over : Bool) (given sent : List ℕ) (c : Kept) (x y : Buffer ℕ) → c.ring ≡ x.items
+    → (a b : At B H) → FillsTo a x b y → IsSaying a → HoldsAt a V T s over given sent c → HoldsAt b V T s over given sent (with_ring c y.items)
+fills_at {B} {H} V T s over given sent c x y r at.Reading b e is h = absurd is
+fills_at {B} {H} V T s over given sent c x y r at.Asked b e is h = absurd is
+fills_at {B} {H} V T s over given sent c x y r (at.Refused fault) b e is h = absurd is
+fills_at {B} {H} V T s over given sent c x y r (at.Answering f) b e is h = fills_from V T s over given sent c f x y r b e h
+fills_at {B} {H} V T s over given sent c x y r (at.Writing keeps) b e is h =
+    same_ring V T s over given sent c x y r (at.Writing keeps) b e.0 e.1 h
+fills_at {B} {H} V T s over given sent c x y r at.Refusing b e is h =
+    same_ring V T s over given sent c x y r at.Refusing b e.0 e.1 h
+fills_at {B} {H} V T s over given sent c x y r (at.Over ended) b e is h = absurd is
+
+pub fills_hold : {B H : Type 0} (V : Voice H) (T : Teller H) (s : Seen) (peer : List ℕ) (c : Kept) (a b : At B H) (x y : Buffer ℕ) → c.ring ≡ x.items
+    → FillsTo a x b y → IsSaying a → StandsAt V T s peer a c → StandsAt V T s peer b (with_ring c y.items)
+fills_hold {B} {H} V T s peer c a b x y r e is h = record {
+  given = h.given;
+  sent = h.sent;
+  over = h.over;
+  shows = h.shows;
+  at = fills_at V T s h.over h.given h.sent c x y r a b e is h.at;
+}
+
+some_of : (xs ys zs : List ℕ) → zs ≡ xs ++ ys → 0 < length xs + length ys → 0 < length zs
+some_of xs ys zs e some = omega (arith, some, ap length e, length-append xs ys)
+
+some_moved : (xs ys zs ws : List ℕ) → zs ++ ws ≡ xs ++ ys → 0 < length xs + length ys → 0 < length zs + length ws
+some_moved xs ys zs ws e some = omega (arith, some, ap length e, length-append xs ys, length-append zs ws)
+
+-- what is owed stays
+pub fills_rest : {B H : Type 0} (a b : At B H) (x y : Buffer ℕ) (intake : Intake) (held : List ℕ) (calls : ℕ) → FillsTo a x b y → IsSaying a
+    → RestsAt a intake held x.items calls → RestsAt b intake held y.items calls
+fills_rest {B} {H} at.Reading b x y intake held calls e is h = absurd is
+fills_rest {B} {H} at.Asked b x y intake held calls e is h = absurd is
+fills_rest {B} {H} (at.Refused fault) b x y intake held calls e is h = absurd is
+fills_rest {B} {H} (at.Answering f) at.Reading x y intake held calls e is h = absurd e
+fills_rest {B} {H} (at.Answering f) at.Asked x y intake held calls e is h = absurd e
+fills_rest {B} {H} (at.Answering f) (at.Refused fault) x y intake held calls e is h = absurd e
+fills_rest {B} {H} (at.Answering f) (at.Answering new) x y intake held calls e is h = (
+  some_moved x.items f.rest.bytes y.items new.rest.bytes (fill_moves f.rest new.rest (Ok Full) x y e.0) h.0,
+  subst (λ (z : After). GoesOn z intake calls)
+      (sym (ap (λ (o : Option BodyRule). body_after o new.after) e.0.rule ∙ ap (body_after f.rest.rule) e.1)) h.1,
+)
+fills_rest {B} {H} (at.Answering f) (at.Writing keeps) x y intake held calls e is h = (
+  some_of x.items f.rest.bytes y.items (written_ring f x y keeps e) h.0,
+  subst (λ (z : After). GoesOn z intake calls)
+      (sym (keeps_as e.new.after keeps e.keeps_is e.untaken ∙ after_by_rule f e.new e.result x y e.unfilled e.fills e.after_is)) h.1,
+)
+fills_rest {B} {H} (at.Answering f) at.Refusing x y intake held calls e is h = absurd e
+fills_rest {B} {H} (at.Answering f) (at.Over ended) x y intake held calls e is h = tt
+fills_rest {B} {H} (at.Writing keeps) b x y intake held calls e is h =
+    subst (λ (d : At B H). RestsAt d intake held y.items calls) (sym e.0)
+    (subst (λ (z : Buffer ℕ). RestsAt {B = B} {H = H} (at.Writing keeps) intake held z.items calls) (sym e.1) h)
+fills_rest {B} {H} at.Refusing b x y intake held calls e is h =
+    subst (λ (d : At B H). RestsAt d intake held y.items calls) (sym e.0)
+    (subst (λ (z : Buffer ℕ). RestsAt {B = B} {H = H} at.Refusing intake held z.items calls) (sym e.1) h)
+fills_rest {B} {H} (at.Over ended) b x y intake held calls e is h = absurd is

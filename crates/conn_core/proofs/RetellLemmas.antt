@@ -1,0 +1,122 @@
+-- What stands for one talk stands for another whose replies are the same to the requests that were run.
+use Rattle.std.proofs.Common.{◌≡◌, ℕ, suc, ◌+◌, ◌<◌, ◌≤◌, Bool, List, [], ◌++◌, length, refl, sym, ap, subst, ◌∙◌, arith, Option, None}
+use Rattle.rack_types.specs.declared.body.Body.{Ghosts}
+use Rattle.rack_types.specs.Request.{Parts}
+use Rattle.rack_outside.specs.Link.{Seen}
+use Rattle.reply_framing.specs.declared.types.After.{After}
+use Rattle.reply_framing.specs.Coming.{Coming}
+use Rattle.reply_framing.specs.Owes.{Owes}
+use Rattle.reply_framing.specs.Reply.{WholeReply}
+use Rattle.talk_core.specs.declared.ended.Why.{Why}
+use Rattle.talk_core.specs.declared.ended.Why.TheVariants as why
+use Rattle.talk_core.specs.Ended.{Past}
+use Rattle.talk_core.specs.Stands.{Word, Stands, silent, replies, refuses}
+use Rattle.talk_core.specs.Tail.{Voice}
+use Rattle.talk_core.specs.Teller.{Teller, AgreesBelow}
+use Rattle.talk_core.proofs.CallerLemmas.{stands_agrees, partly_agrees, ends_agrees, agrees_same, agrees_trans}
+use Rattle.conn_core.specs.declared.inside.Inside.{Inside}
+use Rattle.conn_core.specs.declared.place.At.{At}
+use Rattle.conn_core.specs.declared.place.At.TheVariants as at
+use Rattle.conn_core.specs.Holds.{Kept, kept, past, Between, Replying, HoldsAt, StandsAt, HoldsBy}
+use Rattle.conn_core.specs.Plain.{EndsPlainly}
+use Rattle.conn_core.specs.Rests.{after_of}
+use Rattle.conn_core.specs.Runs.{RunsBy}
+
+module _ {H : Type 0} (V : Voice H) (T U : Teller H) (s : Seen) (over : Bool) (given sent : List ℕ) (c : Kept) (same : AgreesBelow c.calls T U) where
+  between_agrees : (now : List ℕ) → Between V T over given sent c now → Between V U over given sent c now
+  between_agrees now h = record {
+    fed = h.fed;
+    ring = h.ring;
+    stands = stands_agrees T U V over given sent c.calls silent (now ++ c.held) [] (λ i lt r. same i (omega (arith, lt)) r) h.stands;
+  }
+
+  replying_agrees : (k : ℕ) (r : Parts) (behind : List ℕ) → Replying V T over given sent c k r behind → Replying V U over given sent c k r behind
+  replying_agrees k r behind h = record {
+    count = h.count;
+    stands = stands_agrees T U V over given sent k (replies r) c.held (c.ring ++ behind) (λ i lt q. same i (omega (arith, lt, h.count)) q) h.stands;
+  }
+
+  here : (k : ℕ) (r : Parts) → c.calls ≡ suc k → T k r ≡ U k r
+  here k r count = same k (omega (arith, count)) r
+
+  ends_so : (w : Why) → EndsPlainly w V T (past s c.calls given sent over) → EndsPlainly w V U (past s c.calls given sent over)
+  ends_so why.Closed e = ends_agrees T U why.Closed V (past s c.calls given sent over) same e
+  ends_so why.PeerEnd e = ends_agrees T U why.PeerEnd V (past s c.calls given sent over) same e
+  ends_so (why.Idle by) e = ends_agrees T U (why.Idle by) V (past s c.calls given sent over) same e
+  ends_so (why.TimedOut since moment) e = ends_agrees T U (why.TimedOut since moment) V (past s c.calls given sent over) same e
+  ends_so (why.Stalled since moment) e = ends_agrees T U (why.Stalled since moment) V (past s c.calls given sent over) same e
+  ends_so (why.Unread level) e = ends_agrees T U (why.Unread level) V (past s c.calls given sent over) same e
+  ends_so why.ReadFailed e = ends_agrees T U why.ReadFailed V (past s c.calls given sent over) same e
+  ends_so why.WriteFailed e = (
+    e.0,
+    (
+      e.1.0,
+      record {
+        word = e.1.1.word;
+        plain = e.1.1.plain;
+        partly = partly_agrees T U V over given sent c.calls None e.1.1.word e.1.0 same e.1.1.partly;
+      },
+      e.1.2,
+    ),
+  )
+  ends_so (why.Halted level) e = ends_agrees T U (why.Halted level) V (past s c.calls given sent over) same e
+  ends_so why.NoMemory e = (
+    e.0,
+    record {
+      word = e.1.word;
+      plain = e.1.plain;
+      partly = partly_agrees T U V over given sent c.calls None e.1.word e.0 same e.1.partly;
+    },
+  )
+  ends_so why.Hijacked e = ends_agrees T U why.Hijacked V (past s c.calls given sent over) same e
+
+  retold_at : {B : Type 0} (a : At B H) → HoldsAt a V T s over given sent c → HoldsAt a V U s over given sent c
+  retold_at {B} at.Reading h = (h.0, h.1, h.2, between_agrees h.0 h.3)
+  retold_at {B} at.Asked h = (h.0, h.1, h.2, between_agrees h.0 h.3)
+  retold_at {B} (at.Refused f) h = (h.0, h.1, h.2, between_agrees h.0 h.3)
+  retold_at {B} (at.Answering f) h = (
+    h.0,
+    h.1,
+    h.2,
+    subst (λ (w : WholeReply H). Owes f w h.2) (here h.0 h.1 h.4.count) h.3,
+    replying_agrees h.0 h.1 f.rest.bytes h.4,
+  )
+  retold_at {B} (at.Writing keeps) h = (
+    h.0,
+    h.1,
+    h.2 ∙ ap (λ (w : WholeReply H). w.after) (here h.0 h.1 h.3.count),
+    replying_agrees h.0 h.1 [] h.3,
+  )
+  retold_at {B} at.Refusing h = (
+    h.0,
+    h.1,
+    stands_agrees T U V over given sent c.calls (refuses h.0) h.1 c.ring (λ i lt r. same i (omega (arith, lt)) r) h.2,
+  )
+  retold_at {B} (at.Over w) h = ends_so w h
+
+pub retold : {B H : Type 0} (V : Voice H) (T U : Teller H) (s : Seen) (peer : List ℕ) (a : At B H) (c : Kept) → AgreesBelow c.calls T U
+    → StandsAt V T s peer a c → StandsAt V U s peer a c
+retold {B} {H} V T U s peer a c same h = record {
+  given = h.given;
+  sent = h.sent;
+  over = h.over;
+  shows = h.shows;
+  at = retold_at V T U s h.over h.given h.sent c same a h.at;
+}
+
+-- behind some runs, and then more
+pub more_runs : {B H : Type 0} {g : Ghosts B} (V : Voice H) (T : Teller H) (n m : ℕ) (s s' : Seen) (p q : Inside B H g) → n ≤ m → RunsBy V T n s p
+    → ((U : Teller H) → HoldsBy V U s p → RunsBy V U m s' q) → RunsBy V T n s' q
+more_runs {B} {H} {g} V T n m s s' p q few x next =
+    let y = next x.teller x.stands in
+    record { teller = y.teller; before = agrees_trans T x.teller y.teller n m few x.before y.before; stands = y.stands }
+
+-- without a run
+pub no_run : {B H : Type 0} {g : Ghosts B} (V : Voice H) (T : Teller H) (n : ℕ) (s : Seen) (p : Inside B H g) → HoldsBy V T s p → RunsBy V T n s p
+no_run {B} {H} {g} V T n s p h = record { teller = T; before = agrees_same T n; stands = h }
+
+-- over the same connection
+pub runs_of_same : {B H : Type 0} {g : Ghosts B} (V : Voice H) (T : Teller H) (s s' : Seen) (old mid new : Inside B H g) → mid ≡ old
+    → (HoldsBy V T s mid → RunsBy V T mid.calls s' new) → HoldsBy V T s old → RunsBy V T old.calls s' new
+runs_of_same {B} {H} {g} V T s s' old mid new e runs h =
+    subst (λ (x : Inside B H g). RunsBy V T x.calls s' new) e (runs (subst (λ (x : Inside B H g). HoldsBy V T s x) (sym e) h))

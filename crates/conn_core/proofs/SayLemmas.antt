@@ -1,0 +1,161 @@
+-- What stands while something is said.
+use Rattle.std.proofs.Common.{◌≡◌, ◌≢◌, ◌↔◌, ℕ, suc, ◌+◌, ◌<◌, ◌≤◌, Bool, true, false, IsTrue, List, [], ◌++◌, length, refl, sym, ap, subst, ◌∙◌, append_assoc, arith, length-append, Option, None, Some, Result, Ok, Err}
+use Rattle.std.proofs.lemmas.List.{append-nil}
+use Rattle.std.specs.declared.alloc.AllocError.{AllocError}
+use Rattle.circular_buffer.specs.Buffer.{Buffer}
+use Rattle.rack_types.specs.declared.fault.Fault.{Fault}
+use Rattle.rack_types.specs.Request.{Parts}
+use Rattle.rack_outside.specs.Link.{Seen, IsOneWrite}
+use Rattle.rack_outside.specs.Told.{Rose, appended}
+use Rattle.rack_outside.proofs.CallerLemmas.{rose_some}
+use Rattle.message_framing.specs.declared.intake.Intake.{Intake}
+use Rattle.message_framing.specs.Intake.{Fed}
+use Rattle.reply_framing.specs.declared.types.After.{After}
+use Rattle.reply_framing.specs.declared.types.After.TheVariants.{Keep, Close, Hijack}
+use Rattle.reply_framing.specs.declared.types.Filled.{Filled}
+use Rattle.reply_framing.specs.declared.types.Filled.TheVariants.{Full, Done, Broke}
+use Rattle.reply_framing.specs.Coming.{Coming}
+use Rattle.reply_framing.specs.Fault.{fault_reply}
+use Rattle.reply_framing.specs.Fills.{Fills, after_then}
+use Rattle.reply_framing.specs.Owes.{Owes}
+use Rattle.reply_framing.specs.Reply.{WholeReply, body_after}
+use Rattle.reply_framing.proofs.CallerLemmas.{owes_fill, after_done, after_broke, fill_moves, close_else}
+use Rattle.talk_core.specs.declared.ended.Why.TheVariants as why
+use Rattle.talk_core.specs.Stands.{Word, Stands, silent, replies, refuses, asked_by, IsPlain}
+use Rattle.talk_core.specs.Tail.{Voice}
+use Rattle.talk_core.specs.Talk.{refused, closed}
+use Rattle.talk_core.specs.Teller.{Teller}
+use Rattle.talk_core.proofs.CallerLemmas.{lacks_some, stands_sent, stands_kept, whole_closed, whole_refused, shows_sent, shows_unsent}
+use Rattle.conn_core.specs.declared.place.At.{At}
+use Rattle.conn_core.specs.declared.place.At.TheVariants as at
+use Rattle.conn_core.specs.Holds.{Kept, past, Between, Replying, HoldsAt, StandsAt}
+use Rattle.conn_core.specs.Place.{IsSaying}
+use Rattle.conn_core.specs.Plain.{EndsPlainly}
+use Rattle.conn_core.specs.Rests.{after_of}
+use Rattle.conn_core.specs.Steps.{Written, FillsFrom, FillsTo, FeedsHeld, CompletesTo}
+use Rattle.conn_core.proofs.FeedLemmas.{feeds_hold, fed_kept}
+use Rattle.conn_core.proofs.BeginLemmas.{unsaid}
+
+-- the parts with other bytes in the ring
+abbrev pub with_ring : Kept → List ℕ → Kept
+with_ring c ring = record { intake = c.intake; held = c.held; ring = ring; calls = c.calls }
+
+-- a place where something is being said: what stands there, and how to come back to it
+pub record Saying {B H : Type 0} (a : At B H) (V : Voice H) (T : Teller H) (over : Bool) (given sent : List ℕ) (c : Kept) : Type 0 where
+  pub k : ℕ
+  pub word : Word H
+  pub plain : IsPlain word
+  pub rest : List ℕ
+  pub tail : List ℕ
+  pub calls_is : c.calls ≡ k + length (asked_by word)
+  pub stands : Stands V T over given sent k word rest (c.ring ++ tail)
+  pub back : (s : Seen) (sent' ring' : List ℕ) → Stands V T over given sent' k word rest (ring' ++ tail)
+      → HoldsAt a V T s over given sent' (with_ring c ring')
+
+pub saying : {B H : Type 0} (a : At B H) (V : Voice H) (T : Teller H) (s : Seen) (over : Bool) (given sent : List ℕ) (c : Kept) → IsSaying a
+    → HoldsAt a V T s over given sent c → Saying a V T over given sent c
+saying {B} {H} at.Reading V T s over given sent c x h = absurd x
+saying {B} {H} at.Asked V T s over given sent c x h = absurd x
+saying {B} {H} (at.Refused f) V T s over given sent c x h = absurd x
+saying {B} {H} (at.Answering framer) V T s over given sent c x h =
+    let n : c.calls ≡ h.0 + 1 = omega (arith, h.4.count) in
+    record {
+      k = h.0;
+      word = replies h.1;
+      plain = tt;
+      rest = c.held;
+      tail = framer.rest.bytes;
+      calls_is = n;
+      stands = h.4.stands;
+      back = λ s' sent' ring' t. (h.0, h.1, h.2, h.3, record { count = h.4.count; stands = t });
+    }
+saying {B} {H} (at.Writing keeps) V T s over given sent c x h =
+    let n : c.calls ≡ h.0 + 1 = omega (arith, h.3.count) in
+    record {
+      k = h.0;
+      word = replies h.1;
+      plain = tt;
+      rest = c.held;
+      tail = [];
+      calls_is = n;
+      stands = h.3.stands;
+      back = λ s' sent' ring' t. (h.0, h.1, h.2, record { count = h.3.count; stands = t });
+    }
+saying {B} {H} at.Refusing V T s over given sent c x h =
+    let n : c.calls ≡ c.calls + 0 = omega arith in
+    record {
+      k = c.calls;
+      word = refuses h.0;
+      plain = tt;
+      rest = h.1;
+      tail = [];
+      calls_is = n;
+      stands = subst (λ (y : List ℕ). Stands V T over given sent c.calls (refuses h.0) h.1 y) (sym (append-nil c.ring)) h.2;
+      back = λ s' sent' ring' t.
+          (h.0, h.1, subst (λ (y : List ℕ). Stands V T over given sent' c.calls (refuses h.0) h.1 y) (append-nil ring') t);
+    }
+saying {B} {H} (at.Over ended) V T s over given sent c x h = absurd x
+
+module _ {B H : Type 0} (a : At B H) (V : Voice H) (T : Teller H) (old new : Seen) (peer : List ℕ) (c : Kept) (is : IsSaying a)
+    (one : IsOneWrite old new) where
+  -- the link took a piece of the ring
+  pub took : (piece after : List ℕ) → c.ring ≡ piece ++ after → new.sent ≡ appended old.sent piece
+      → StandsAt V T old peer a c → StandsAt V T new peer a (with_ring c after)
+  took piece after ring_is sent_is h =
+      let q : Saying a V T h.over h.given h.sent c = saying a V T old h.over h.given h.sent c is h.at in
+      let e : c.ring ++ q.tail ≡ piece ++ (after ++ q.tail) = ap (λ x. x ++ q.tail) ring_is ∙ append_assoc piece after q.tail in
+      record {
+        given = h.given;
+        sent = h.sent ++ piece;
+        over = h.over;
+        shows = shows_sent old new peer h.given h.sent h.over piece one sent_is h.shows;
+        at = q.back new (h.sent ++ piece) after
+            (stands_sent V T h.over h.given h.sent piece (after ++ q.tail) q.rest q.k q.word
+            (subst (λ (x : List ℕ). Stands V T h.over h.given h.sent q.k q.word q.rest x) e q.stands));
+      }
+
+  -- the link took nothing yet
+  pub untaken : new.sent ≡ old.sent → StandsAt V T old peer a c → StandsAt V T new peer a c
+  untaken sent_is h =
+      let q : Saying a V T h.over h.given h.sent c = saying a V T old h.over h.given h.sent c is h.at in
+      record {
+        given = h.given;
+        sent = h.sent;
+        over = h.over;
+        shows = shows_unsent old new peer h.given h.sent h.over one sent_is h.shows;
+        at = q.back new h.sent c.ring q.stands;
+      }
+
+  -- the write failed
+  pub write_failed : (d : Kept) → d.calls ≡ c.calls → 0 < length c.ring → new.sent ≡ old.sent → Rose old.failed_writes new.failed_writes
+      → StandsAt V T old peer a c → StandsAt {B = B} V T new peer (at.Over why.WriteFailed) d
+  write_failed d n some sent_is rose h =
+      let q : Saying a V T h.over h.given h.sent c = saying a V T old h.over h.given h.sent c is h.at in
+      record {
+        given = h.given;
+        sent = h.sent;
+        over = h.over;
+        shows = shows_unsent old new peer h.given h.sent h.over one sent_is h.shows;
+        at = subst (λ (k : ℕ). EndsPlainly why.WriteFailed V T (past new k h.given h.sent h.over)) (sym n) (
+          rose_some old.failed_writes new.failed_writes rose,
+          (
+            c.ring ++ q.tail,
+            record { word = q.word; plain = q.plain; partly = record { k = q.k; rest = q.rest; calls_is = q.calls_is; stands = q.stands; closes = tt } },
+            lacks_some c.ring q.tail some,
+          ),
+        );
+      }
+
+  -- the write wanted memory
+  pub write_lacks : (d : Kept) → d.calls ≡ c.calls → new.sent ≡ old.sent
+      → StandsAt V T old peer a c → StandsAt {B = B} V T new peer (at.Over why.NoMemory) d
+  write_lacks d n sent_is h =
+      let q : Saying a V T h.over h.given h.sent c = saying a V T old h.over h.given h.sent c is h.at in
+      record {
+        given = h.given;
+        sent = h.sent;
+        over = h.over;
+        shows = shows_unsent old new peer h.given h.sent h.over one sent_is h.shows;
+        at = subst (λ (k : ℕ). EndsPlainly why.NoMemory V T (past new k h.given h.sent h.over)) (sym n)
+            (c.ring ++ q.tail, record { word = q.word; plain = q.plain; partly = record { k = q.k; rest = q.rest; calls_is = q.calls_is; stands = q.stands; closes = tt } });
+      }

@@ -1,0 +1,12 @@
+use Rattle.conn_core.proofs.ConnLemmas.{end_of, plain_end_of}
+use Rattle.conn_core.proofs.conn.Conn.finish.Goals as goal
+
+pub returns-clause-ended : goal.returns-clause-ended
+returns-clause-ended g c = λ S h.
+    end_of g.L.Link.seen (record { says = g.H.Hijack.says; ends = g.H.Hijack.ends }) S c.args.self.number c.args.self.link c.args.self.inside.value
+    c.into_inner-lives.result c.in-Over.why c.into_inner-lives.ensures c.in-Over.is h.lives_are h.stands
+
+pub returns-clause-plainly : goal.returns-clause-plainly
+returns-clause-plainly g c = λ S h.
+    plain_end_of g.L.Link.seen (record { says = g.H.Hijack.says; ends = g.H.Hijack.ends }) S c.args.self.number c.args.self.link c.args.self.inside.value
+    c.into_inner-lives.result c.in-Over.why c.into_inner-lives.ensures c.in-Over.is h.stands

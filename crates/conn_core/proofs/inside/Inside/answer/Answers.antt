@@ -1,0 +1,49 @@
+use Rattle.std.proofs.Common.{◌≡◌, ◌+◌, ◌==◌, ℕ, List, None, refl, sym, ap, subst}
+use Rattle.rack_types.specs.Request.{Parts}
+use Rattle.rack_env.specs.Environment.{env_pairs}
+use Rattle.reply_framing.specs.Reply.{WholeReply}
+use Rattle.talk_core.specs.declared.ended.Why.TheVariants as why
+use Rattle.talk_core.specs.Teller.{Teller, reply_of, is_last}
+use Rattle.talk_core.proofs.CallerLemmas.{is_last_none, told_at, told_before, told_here, agrees_same}
+use Rattle.conn_core.specs.declared.place.At.TheVariants as at
+use Rattle.conn_core.specs.declared.place.At.{At}
+use Rattle.conn_core.specs.Holds.{kept}
+use Rattle.conn_core.specs.Rests.{RestsAt}
+use Rattle.conn_core.proofs.BeginLemmas.{answered, unanswered}
+use Rattle.conn_core.proofs.PlaceLemmas.{stands_place}
+use Rattle.conn_core.proofs.RetellLemmas.{retold}
+use Rattle.conn_core.proofs.inside.Inside.answer.Goals as goal
+
+pub returns-in-Ok-clause-holds : goal.returns-in-Ok-clause-holds
+returns-in-Ok-clause-holds g c = λ V T s told h.
+    stands_place c.run-at.result c.put.new.at V T s c.args.self.now.peer _ (sym c.put.ensures)
+    (answered V T s c.args.self.now.peer c.args.self.now.local (kept c.args.self.now) c.run-at.result c.prepare.new.intake
+    (c.args.self.now.calls + 1) (g.R.Runner.answer c.args.runner.now) (c.args.self.now.calls == 9999) c.in-Ok.ask c.prepare.new.env refl
+    (sym (is_last_none c.args.self.now.calls)) c.in-Ok.ensures.asks c.run-at.ensures.begins told
+    (stands_place c.args.self.now.at at.Asked V T s c.args.self.now.peer (kept c.args.self.now) c.requires.at h))
+
+pub returns-in-Ok-clause-any : goal.returns-in-Ok-clause-any
+returns-in-Ok-clause-any g c = λ V T s h.
+    let p = c.args.self.now in
+    let f : Parts → WholeReply g.row.H.Denot =
+    λ r. reply_of (g.R.Runner.answer c.args.runner.now) (env_pairs r p.peer p.local) r (is_last None p.calls) in
+    let U : Teller g.row.H.Denot = told_at T p.calls f in
+    record {
+      teller = told_at T p.calls f;
+      before = told_before T p.calls f;
+      stands = stands_place c.run-at.result c.put.new.at V U s p.peer _ (sym c.put.ensures)
+          (answered V U s p.peer p.local (kept p) c.run-at.result c.prepare.new.intake
+          (p.calls + 1) (g.R.Runner.answer c.args.runner.now) (p.calls == 9999) c.in-Ok.ask c.prepare.new.env refl
+          (sym (is_last_none p.calls)) c.in-Ok.ensures.asks c.run-at.ensures.begins (told_here T p.calls f)
+          (stands_place p.at at.Asked V U s p.peer (kept p) c.requires.at (retold V T U s p.peer p.at (kept p) (told_before T p.calls f) h)));
+    }
+
+pub returns-in-Err-clause-any : goal.returns-in-Err-clause-any
+returns-in-Err-clause-any g c = λ V T s h.
+    let p = c.args.self.now in
+    record {
+      teller = T;
+      before = agrees_same T p.calls;
+      stands = stands_place (at.Over why.NoMemory) c.put-in-Err.new.at V T s p.peer _ (sym c.put-in-Err.ensures)
+          (unanswered V T s p.peer p.local (kept p) _ refl (stands_place p.at at.Asked V T s p.peer (kept p) c.requires.at h));
+    }

@@ -1,0 +1,46 @@
+use Rattle.std.proofs.Common.{◌≡◌, ◌↔◌, IsTrue, ◌<◌, ℕ, List, refl, sym, ap, subst, ◌∙◌, arith}
+use Rattle.circular_buffer.specs.Buffer.{Buffer}
+use Rattle.conn_core.specs.declared.place.At.{At}
+use Rattle.conn_core.specs.Holds.{kept}
+use Rattle.conn_core.specs.Inner.{IsFilledAt}
+use Rattle.conn_core.specs.Place.{IsSaying}
+use Rattle.conn_core.specs.Rests.{RestsAt}
+use Rattle.conn_core.specs.Steps.{FillsTo}
+use Rattle.conn_core.proofs.FillLemmas.{fills_hold, fills_rest}
+use Rattle.conn_core.proofs.FilledLemmas.{fills_room, fills_shown, fills_some}
+use Rattle.conn_core.proofs.PlaceLemmas.{stands_place}
+use Rattle.conn_core.proofs.inside.Inside.fill.Goals as goal
+
+pub invariant_of-self : goal.invariant_of-self
+invariant_of-self g c =
+    let x : Buffer ℕ = c.args.self.now.ring in
+    let y : Buffer ℕ = c.fill-at.new.ring in
+    let fills : FillsTo c.args.self.now.at x c.fill-at.result y =
+    subst (λ (a : At g.row.B.Denot g.row.H.Denot). FillsTo a x c.fill-at.result y) c.replace.ensures.value c.fill-at.ensures in
+    record {
+      room = fills_room c.args.self.now.at c.fill-at.result x y fills c.requires ∙ c.args.self.now.room;
+      rests = subst (λ (a : At g.row.B.Denot g.row.H.Denot). RestsAt a c.args.self.now.intake c.args.self.now.held y.items c.args.self.now.calls)
+          (sym c.put.ensures)
+          (fills_rest c.args.self.now.at c.fill-at.result x y c.args.self.now.intake c.args.self.now.held c.args.self.now.calls fills c.requires
+          c.args.self.now.rests);
+    }
+
+pub returns-clause-holds : goal.returns-clause-holds
+returns-clause-holds g c = λ V T s h.
+    let x : Buffer ℕ = c.args.self.now.ring in
+    let y : Buffer ℕ = c.fill-at.new.ring in
+    let fills : FillsTo c.args.self.now.at x c.fill-at.result y =
+    subst (λ (a : At g.row.B.Denot g.row.H.Denot). FillsTo a x c.fill-at.result y) c.replace.ensures.value c.fill-at.ensures in
+    stands_place c.fill-at.result c.put.new.at V T s c.args.self.now.peer _ (sym c.put.ensures)
+    (fills_hold V T s c.args.self.now.peer (kept c.args.self.now) c.args.self.now.at c.fill-at.result x y refl fills c.requires h)
+
+pub returns-clause-fills : goal.returns-clause-fills
+returns-clause-fills g c =
+    let x : Buffer ℕ = c.args.self.now.ring in
+    let y : Buffer ℕ = c.fill-at.new.ring in
+    let p = c.args.self.now in
+    let fills : FillsTo p.at x c.fill-at.result y =
+    subst (λ (a : At g.row.B.Denot g.row.H.Denot). FillsTo a x c.fill-at.result y) c.replace.ensures.value c.fill-at.ensures in
+    fills_shown p.peer p.local p.lives.items p.calls p.taken c.is_saying-goes_on.result p.at c.put.new.at x y
+    (subst (λ (b : At g.row.B.Denot g.row.H.Denot). FillsTo p.at x b y) (sym c.put.ensures) fills) c.requires
+    (subst (λ (b : At g.row.B.Denot g.row.H.Denot). IsTrue c.is_saying-goes_on.result ↔ IsSaying b) (sym c.put.ensures) c.is_saying-goes_on.ensures)

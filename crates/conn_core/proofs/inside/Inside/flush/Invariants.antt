@@ -1,0 +1,18 @@
+use Rattle.std.proofs.Common.{◌-◌}
+use Rattle.talk_core.specs.Tail.{Voice}
+use Rattle.talk_core.specs.Teller.{Teller}
+use Rattle.conn_core.specs.Holds.{HoldsBy}
+use Rattle.conn_core.specs.Shown.{shows}
+use Rattle.conn_core.proofs.TurnLemmas.{Flushing, Falling}
+use Rattle.conn_core.proofs.inside.Inside.flush.Given as goal
+
+abbrev pub invariant-loop-writes : goal.invariant-loop-writes
+invariant-loop-writes g l = record {
+  holds : (V : Voice g.row.H.Denot) (T : Teller g.row.H.Denot)
+      → HoldsBy V T (g.L.Link.seen l.fn.link) l.fn.self → HoldsBy V T (g.L.Link.seen l.link) l.self;
+  flushing : Flushing (shows l.fn.self) (shows l.self) (g.L.Link.seen l.fn.link) (g.L.Link.seen l.link) l.writes;
+  falling : Falling (shows l.fn.self) (shows l.self) l.writes;
+}
+
+abbrev pub decreases-loop-writes : goal.decreases-loop-writes
+decreases-loop-writes g l = 16 - l.writes

@@ -1,0 +1,116 @@
+use Rattle.std.proofs.Common.{◌≡◌, ℕ, ◌+◌, ◌-◌, ◌^◌, ◌<◌, min, List, [], length, refl, sym, ap, subst, ◌∙◌, arith}
+use Rattle.rack_outside.specs.Link.{Seen}
+use Rattle.talk_core.specs.Counts.{counted_by}
+use Rattle.talk_core.specs.declared.ended.Why.TheVariants as why
+use Rattle.conn_core.specs.declared.place.At.{At}
+use Rattle.conn_core.specs.declared.place.At.TheVariants as at
+use Rattle.conn_core.specs.Calls.{TurnEnds, IsOfFeed}
+use Rattle.conn_core.specs.Holds.{kept}
+use Rattle.conn_core.specs.Inner.{IsFed}
+use Rattle.conn_core.specs.Place.{state_at}
+use Rattle.conn_core.specs.Shown.{shows, replied_at, why_at}
+use Rattle.conn_core.proofs.PlaceLemmas.{stands_place}
+use Rattle.conn_core.proofs.ReadLemmas.{took_in, not_yet, read_end, read_failed}
+use Rattle.conn_core.proofs.ShownLemmas.{appended_nil, counted_sum, moved_by_read, nothing_came, FedShown, fed_shown}
+use Rattle.conn_core.proofs.inside.Inside.read.Goals as goal
+
+pub returns-in-Bytes-clause-holds : goal.returns-in-Bytes-clause-holds
+returns-in-Bytes-clause-holds g c = λ V T h.
+    let s = g.L.Link.seen c.args.link.now in
+    let s' = g.L.Link.seen c.read-read.new.link in
+    stands_place c.feed_held-at.result c.put.new.at V T s' c.args.self.now.peer _ (sym c.put.ensures)
+    (took_in V T s s' c.args.self.now.peer (kept c.args.self.now) c.in-Bytes.ensures.keeps c.feed_held-at.result c.read-read.new.self
+    c.feed_held-at.new.held c.feed_held-at.new.intake c.in-Bytes.ensures.reads.2 c.in-Bytes.ensures.reads.3 c.feed_held-at.ensures
+    (stands_place c.args.self.now.at at.Reading V T s c.args.self.now.peer (kept c.args.self.now) c.requires h))
+
+pub returns-in-Bytes-clause-reads : goal.returns-in-Bytes-clause-reads
+returns-in-Bytes-clause-reads g c =
+    let s = g.L.Link.seen c.args.link.now in
+    let s' = g.L.Link.seen c.read-read.new.link in
+    let came = c.read-read.new.self in
+    let calls = c.args.self.now.calls in
+    let some : 0 < length came = subst (λ (n : ℕ). 0 < n) c.in-Bytes.ensures.reads.0 c.in-Bytes.ensures.reads.1 in
+    let taken : c.saturating_add-self.result ≡ counted_by (length came) c.args.self.now.taken =
+    c.saturating_add-self.ensures ∙ ap (λ (n : ℕ). min (c.args.self.now.taken + n) (2 ^ 64 - 1)) c.in-Bytes.ensures.reads.0
+    ∙ sym (counted_sum (length came) c.args.self.now.taken some) in
+    let f : FedShown c.feed_held-at.result calls s s' =
+    fed_shown c.feed_held-at.result calls s s' c.args.self.now.intake c.feed_held-at.new.intake came c.feed_held-at.new.held
+    c.in-Bytes.ensures.reads.3 c.feed_held-at.ensures in
+    let place : c.put.new.at ≡ c.feed_held-at.result = c.put.ensures in
+    record {
+      moved = moved_by_read _ _ s s' came refl refl refl c.in-Bytes.ensures.keeps c.in-Bytes.ensures.reads.2 taken;
+      calls = refl;
+      replied = ap (λ (a : At g.row.B.Denot g.row.H.Denot). replied_at a calls) place ∙ f.replied
+          ∙ sym (ap (λ (a : At g.row.B.Denot g.row.H.Denot). replied_at a calls) c.requires);
+      sent = c.in-Bytes.ensures.keeps.sent;
+      why = subst (λ (a : At g.row.B.Denot g.row.H.Denot). IsOfFeed (why_at a)) (sym place) f.why;
+      ends = subst (λ (a : At g.row.B.Denot g.row.H.Denot). TurnEnds (why_at a) s s') (sym place) f.ends;
+      leaves = (
+        c.in-Bytes.ensures.reads.0,
+        c.in-Bytes.ensures.reads.1,
+        subst (λ (a : At g.row.B.Denot g.row.H.Denot). IsFed (state_at a)) (sym place) f.state,
+      );
+    }
+
+pub returns-in-NotYet-clause-reads : goal.returns-in-NotYet-clause-reads
+returns-in-NotYet-clause-reads g c =
+    let s = g.L.Link.seen c.args.link.now in
+    let s' = g.L.Link.seen c.read-read.new.link in
+    record {
+      moved = nothing_came _ _ s s' refl refl refl c.in-NotYet.ensures.keeps c.in-NotYet.ensures.reads.1 refl;
+      calls = refl;
+      replied = refl;
+      sent = c.in-NotYet.ensures.keeps.sent;
+      why = subst (λ (a : At g.row.B.Denot g.row.H.Denot). IsOfFeed (why_at a)) (sym c.requires) tt;
+      ends = subst (λ (a : At g.row.B.Denot g.row.H.Denot). TurnEnds (why_at a) s s') (sym c.requires) c.in-NotYet.ensures.reads.2;
+      leaves = (refl, ap (λ (a : At g.row.B.Denot g.row.H.Denot). state_at a) c.requires, c.in-NotYet.ensures.reads.3);
+    }
+
+pub returns-in-End-clause-holds : goal.returns-in-End-clause-holds
+returns-in-End-clause-holds g c = λ V T h.
+    let s = g.L.Link.seen c.args.link.now in
+    let s' = g.L.Link.seen c.read-read.new.link in
+    stands_place (at.Over why.PeerEnd) c.put-in-End.new.at V T s' c.args.self.now.peer _ (sym c.put-in-End.ensures)
+    (read_end V T s s' c.args.self.now.peer (kept c.args.self.now) c.in-End.ensures.keeps _ refl c.in-End.ensures.reads.1 c.in-End.ensures.reads.2
+    (stands_place c.args.self.now.at at.Reading V T s c.args.self.now.peer (kept c.args.self.now) c.requires h))
+
+pub returns-in-End-clause-reads : goal.returns-in-End-clause-reads
+returns-in-End-clause-reads g c =
+    let s = g.L.Link.seen c.args.link.now in
+    let s' = g.L.Link.seen c.read-read.new.link in
+    let place : c.put-in-End.new.at ≡ at.Over why.PeerEnd = c.put-in-End.ensures in
+    record {
+      moved = nothing_came _ _ s s' refl refl refl c.in-End.ensures.keeps c.in-End.ensures.reads.1 refl;
+      calls = refl;
+      replied = ap (λ (a : At g.row.B.Denot g.row.H.Denot). replied_at a c.args.self.now.calls) place
+          ∙ sym (ap (λ (a : At g.row.B.Denot g.row.H.Denot). replied_at a c.args.self.now.calls) c.requires);
+      sent = c.in-End.ensures.keeps.sent;
+      why = subst (λ (a : At g.row.B.Denot g.row.H.Denot). IsOfFeed (why_at a)) (sym place) tt;
+      ends = subst (λ (a : At g.row.B.Denot g.row.H.Denot). TurnEnds (why_at a) s s') (sym place) c.in-End.ensures.reads.2;
+      leaves = (refl, ap (λ (a : At g.row.B.Denot g.row.H.Denot). state_at a) place);
+    }
+
+pub returns-in-Failed-clause-holds : goal.returns-in-Failed-clause-holds
+returns-in-Failed-clause-holds g c = λ V T h.
+    let s = g.L.Link.seen c.args.link.now in
+    let s' = g.L.Link.seen c.read-read.new.link in
+    stands_place (at.Over why.ReadFailed) c.put-in-Failed.new.at V T s' c.args.self.now.peer _ (sym c.put-in-Failed.ensures)
+    (read_failed V T s s' c.args.self.now.peer (kept c.args.self.now) c.in-Failed.ensures.keeps _ refl c.in-Failed.ensures.reads.1
+    c.in-Failed.ensures.reads.2 c.in-Failed.ensures.reads.3
+    (stands_place c.args.self.now.at at.Reading V T s c.args.self.now.peer (kept c.args.self.now) c.requires h))
+
+pub returns-in-Failed-clause-reads : goal.returns-in-Failed-clause-reads
+returns-in-Failed-clause-reads g c =
+    let s = g.L.Link.seen c.args.link.now in
+    let s' = g.L.Link.seen c.read-read.new.link in
+    let place : c.put-in-Failed.new.at ≡ at.Over why.ReadFailed = c.put-in-Failed.ensures in
+    record {
+      moved = nothing_came _ _ s s' refl refl refl c.in-Failed.ensures.keeps c.in-Failed.ensures.reads.1 refl;
+      calls = refl;
+      replied = ap (λ (a : At g.row.B.Denot g.row.H.Denot). replied_at a c.args.self.now.calls) place
+          ∙ sym (ap (λ (a : At g.row.B.Denot g.row.H.Denot). replied_at a c.args.self.now.calls) c.requires);
+      sent = c.in-Failed.ensures.keeps.sent;
+      why = subst (λ (a : At g.row.B.Denot g.row.H.Denot). IsOfFeed (why_at a)) (sym place) tt;
+      ends = subst (λ (a : At g.row.B.Denot g.row.H.Denot). TurnEnds (why_at a) s s') (sym place) (c.in-Failed.ensures.reads.2, c.in-Failed.ensures.reads.3);
+      leaves = (refl, ap (λ (a : At g.row.B.Denot g.row.H.Denot). state_at a) place);
+    }

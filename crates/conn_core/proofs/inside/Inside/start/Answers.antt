@@ -1,0 +1,23 @@
+use Rattle.std.proofs.Common.{◌≡◌, ◌+◌, ◌-◌, ◌≤◌, ℕ, List, refl, arith}
+use Rattle.conn_core.proofs.RetellLemmas.{no_run}
+use Rattle.conn_core.proofs.WorkLemmas.{over_falls}
+use Rattle.conn_core.proofs.inside.Inside.start.Goals as goal
+
+pub returns-else-answer : goal.returns-else-answer
+returns-else-answer g c = record {
+  holds = λ V T s by h. c.if-answer.ensures.holds V T s (λ r. by c.args.self.now.calls r) h;
+  any = λ V T s h. c.if-answer.ensures.any V T s h;
+  starts = record {
+    same = c.if-answer.ensures.starts.same;
+    calls = omega (arith, c.if-answer.ensures.starts.calls);
+    place = c.if-answer.ensures.starts.place;
+  };
+  left = refl;
+  few = omega arith;
+  falls = over_falls c.args.left.now c.args.self.now.at c.answer.new.self.at c.requires.ready (c.if-answer.ensures.unrun refl);
+  counts = omega (arith, c.if-answer.ensures.counts);
+  steady = c.if-answer.ensures.steady;
+}
+
+pub returns-in-Refused-clause-any : goal.returns-in-Refused-clause-any
+returns-in-Refused-clause-any g c = λ V T s h. no_run V T c.args.self.now.calls s c.refuse.new.self (c.refuse.ensures.holds V T s h)

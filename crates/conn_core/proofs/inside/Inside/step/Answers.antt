@@ -1,0 +1,112 @@
+use Rattle.std.proofs.Common.{◌≡◌, ◌+◌, ◌-◌, ℕ, List, length, arith, ap, sym, ◌∙◌, None}
+use Rattle.rack_outside.specs.declared.link.LinkRead.TheVariants as read
+use Rattle.talk_core.specs.Counts.{counted_by}
+use Rattle.conn_core.specs.declared.left.Said.TheVariants as said
+use Rattle.conn_core.specs.declared.state.State.TheVariants as state
+use Rattle.conn_core.specs.Place.{state_at as place_as}
+use Rattle.conn_core.specs.Shown.{shows, why_at}
+use Rattle.conn_core.proofs.RetellLemmas.{no_run}
+use Rattle.conn_core.proofs.ShownLemmas.{counted_sum}
+use Rattle.conn_core.proofs.TurnLemmas.{unspent, nothing_read, stays, read_steps, start_steps, say_steps, no_why_at, is_below}
+use Rattle.conn_core.proofs.inside.Inside.step.Goals as goal
+
+pub returns-then-is_spent-clause-steps : goal.returns-then-is_spent-clause-steps
+returns-then-is_spent-clause-steps g c = stays (shows c.args.self.now) (g.L.Link.seen c.args.link.now) c.args.left.now
+
+pub returns-then-is_spent-2-clause-steps : goal.returns-then-is_spent-2-clause-steps
+returns-then-is_spent-2-clause-steps g c = stays (shows c.args.self.now) (g.L.Link.seen c.args.link.now) c.args.left.now
+
+pub returns-then-left-eq0-clause-steps : goal.returns-then-left-eq0-clause-steps
+returns-then-left-eq0-clause-steps g c = stays (shows c.args.self.now) (g.L.Link.seen c.args.link.now) c.args.left.now
+
+pub returns-in-Over-clause-steps : goal.returns-in-Over-clause-steps
+returns-in-Over-clause-steps g c = stays (shows c.args.self.now) (g.L.Link.seen c.args.link.now) c.args.left.now
+
+pub returns-in-NotYet-clause-steps : goal.returns-in-NotYet-clause-steps
+returns-in-NotYet-clause-steps g c =
+    let h = c.in-NotYet.ensures.reads in
+    let some = unspent c.is_spent.result c.args.left.now c.is_spent.ensures c.if-is_spent.false in
+    let reading : place_as c.args.self.now.at ≡ state.Reading = sym c.state_at.ensures ∙ c.in-Reading.is in
+    let none : why_at c.args.self.now.at ≡ None = no_why_at c.args.self.now.at state.Reading reading (λ e. cc) in
+    read_steps read.NotYet (shows c.args.self.now) (shows c.read.new.self) (g.L.Link.seen c.args.link.now) (g.L.Link.seen c.read.new.link)
+    c.args.left.now c.args.left.now.came h (ap (λ (x : List ℕ). counted_by (length x) c.args.left.now.came) (sym h.leaves.0)) some.1 reading none
+
+pub returns-in-Bytes-clause-steps : goal.returns-in-Bytes-clause-steps
+returns-in-Bytes-clause-steps g c =
+    let h = c.in-Bytes.ensures.reads in
+    let some = unspent c.is_spent.result c.args.left.now c.is_spent.ensures c.if-is_spent.false in
+    let reading : place_as c.args.self.now.at ≡ state.Reading = sym c.state_at.ensures ∙ c.in-Reading.is in
+    let none : why_at c.args.self.now.at ≡ None = no_why_at c.args.self.now.at state.Reading reading (λ e. cc) in
+    read_steps (read.Bytes c.in-Bytes.n) (shows c.args.self.now) (shows c.read.new.self) (g.L.Link.seen c.args.link.now) (g.L.Link.seen c.read.new.link)
+    c.args.left.now c.saturating_add-left.result h
+    (c.saturating_add-left.ensures ∙ sym (counted_sum c.in-Bytes.n c.args.left.now.came h.leaves.1)
+    ∙ ap (λ (x : ℕ). counted_by x c.args.left.now.came) h.leaves.0) some.1 reading none
+
+pub returns-in-End-clause-steps : goal.returns-in-End-clause-steps
+returns-in-End-clause-steps g c =
+    let h = c.read.ensures.reads in
+    let some = unspent c.is_spent.result c.args.left.now c.is_spent.ensures c.if-is_spent.false in
+    let reading : place_as c.args.self.now.at ≡ state.Reading = sym c.state_at.ensures ∙ c.in-Reading.is in
+    let none : why_at c.args.self.now.at ≡ None = no_why_at c.args.self.now.at state.Reading reading (λ e. cc) in
+    let nothing = nothing_read c.read.result (shows c.read.new.self) h.moved.came (g.L.Link.seen c.args.link.now) (g.L.Link.seen c.read.new.link)
+    c.in-End.is h.leaves in
+    read_steps c.read.result (shows c.args.self.now) (shows c.read.new.self) (g.L.Link.seen c.args.link.now) (g.L.Link.seen c.read.new.link)
+    c.args.left.now c.args.left.now.came h (ap (λ (x : List ℕ). counted_by (length x) c.args.left.now.came) (sym nothing)) some.1 reading none
+
+pub returns-else-is_spent-2-clause-steps : goal.returns-else-is_spent-2-clause-steps
+returns-else-is_spent-2-clause-steps g c =
+    let ready : place_as c.args.self.now.at ≡ state.Ready = sym c.state_at.ensures ∙ c.in-Ready.is in
+    let none : why_at c.args.self.now.at ≡ None = no_why_at c.args.self.now.at state.Ready ready (λ e. cc) in
+    start_steps (shows c.args.self.now) (shows c.start.new.self) (g.L.Link.seen c.args.link.now) c.args.left.now c.start.new.left
+    c.start.ensures.starts c.start.ensures.left c.start.ensures.few ready none
+
+pub returns-in-Unwritten-clause-steps : goal.returns-in-Unwritten-clause-steps
+returns-in-Unwritten-clause-steps g c =
+    let n = c.say.new.self in
+    let saying : place_as c.args.self.now.at ≡ state.Answering = sym c.state_at.ensures ∙ c.in-Answering.is in
+    let none : why_at c.args.self.now.at ≡ None = no_why_at c.args.self.now.at state.Answering saying (λ e. cc) in
+    let same : c.args.left.now.writes + 0 ≡ c.args.left.now.writes = omega arith in
+    say_steps said.Unwritten (shows c.args.self.now) (shows n) (g.L.Link.seen c.args.link.now) (g.L.Link.seen c.say.new.link)
+    c.args.left.now c.args.left.now.writes c.in-Unwritten.ensures.says same saying none (is_below n.at n.intake n.held n.ring.items n.calls n.rests)
+
+pub returns-in-Wrote-clause-steps : goal.returns-in-Wrote-clause-steps
+returns-in-Wrote-clause-steps g c =
+    let n = c.say.new.self in
+    let saying : place_as c.args.self.now.at ≡ state.Answering = sym c.state_at.ensures ∙ c.in-Answering.is in
+    let none : why_at c.args.self.now.at ≡ None = no_why_at c.args.self.now.at state.Answering saying (λ e. cc) in
+    let fewer : (c.args.left.now.writes - 1) + 1 ≡ c.args.left.now.writes = omega (arith, c.if-left-eq0-2.false) in
+    say_steps said.Wrote (shows c.args.self.now) (shows n) (g.L.Link.seen c.args.link.now) (g.L.Link.seen c.say.new.link)
+    c.args.left.now (c.args.left.now.writes - 1) c.in-Wrote.ensures.says fewer saying none (is_below n.at n.intake n.held n.ring.items n.calls n.rests)
+
+pub returns-in-Waits-clause-steps : goal.returns-in-Waits-clause-steps
+returns-in-Waits-clause-steps g c =
+    let n = c.say.new.self in
+    let saying : place_as c.args.self.now.at ≡ state.Answering = sym c.state_at.ensures ∙ c.in-Answering.is in
+    let none : why_at c.args.self.now.at ≡ None = no_why_at c.args.self.now.at state.Answering saying (λ e. cc) in
+    let fewer : (c.args.left.now.writes - 1) + 1 ≡ c.args.left.now.writes = omega (arith, c.if-left-eq0-2.false) in
+    say_steps said.Waits (shows c.args.self.now) (shows n) (g.L.Link.seen c.args.link.now) (g.L.Link.seen c.say.new.link)
+    c.args.left.now (c.args.left.now.writes - 1) c.in-Waits.ensures.says fewer saying none (is_below n.at n.intake n.held n.ring.items n.calls n.rests)
+
+pub returns-in-NotYet-clause-any : goal.returns-in-NotYet-clause-any
+returns-in-NotYet-clause-any g c = λ V T h.
+    no_run V T c.args.self.now.calls (g.L.Link.seen c.read.new.link) c.read.new.self (c.read.ensures.holds V T h)
+
+pub returns-in-Bytes-clause-any : goal.returns-in-Bytes-clause-any
+returns-in-Bytes-clause-any g c = λ V T h.
+    no_run V T c.args.self.now.calls (g.L.Link.seen c.read.new.link) c.read.new.self (c.read.ensures.holds V T h)
+
+pub returns-in-End-clause-any : goal.returns-in-End-clause-any
+returns-in-End-clause-any g c = λ V T h.
+    no_run V T c.args.self.now.calls (g.L.Link.seen c.read.new.link) c.read.new.self (c.read.ensures.holds V T h)
+
+pub returns-in-Unwritten-clause-any : goal.returns-in-Unwritten-clause-any
+returns-in-Unwritten-clause-any g c = λ V T h.
+    no_run V T c.args.self.now.calls (g.L.Link.seen c.say.new.link) c.say.new.self (c.say.ensures.holds V T h)
+
+pub returns-in-Wrote-clause-any : goal.returns-in-Wrote-clause-any
+returns-in-Wrote-clause-any g c = λ V T h.
+    no_run V T c.args.self.now.calls (g.L.Link.seen c.say.new.link) c.say.new.self (c.say.ensures.holds V T h)
+
+pub returns-in-Waits-clause-any : goal.returns-in-Waits-clause-any
+returns-in-Waits-clause-any g c = λ V T h.
+    no_run V T c.args.self.now.calls (g.L.Link.seen c.say.new.link) c.say.new.self (c.say.ensures.holds V T h)

@@ -1,0 +1,25 @@
+use Rattle.std.proofs.Common.{◌≡◌, ◌+◌, ℕ, List, true}
+use Rattle.rack_types.specs.Env.{Pairs}
+use Rattle.talk_core.specs.Tail.{Voice}
+use Rattle.talk_core.specs.Teller.{Teller}
+use Rattle.conn_core.specs.Holds.{HoldsBy}
+use Rattle.conn_core.specs.Inner.{TellsBy, work}
+use Rattle.conn_core.specs.Runs.{RunsBy}
+use Rattle.conn_core.specs.Shown.{shows}
+use Rattle.conn_core.proofs.TurnLemmas.{Turning}
+use Rattle.conn_core.proofs.inside.Inside.turn.Given as goal
+
+abbrev pub invariant-loop-self : goal.invariant-loop-self
+invariant-loop-self g l = record {
+  holds : g.R.Runner.steady ≡ true → (V : Voice g.row.H.Denot) (T : Teller g.row.H.Denot)
+      → TellsBy T (g.R.Runner.answer l.fn.runner) l.fn.self.local l.fn.self.peer
+      → HoldsBy V T (g.L.Link.seen l.fn.link) l.fn.self → HoldsBy V T (g.L.Link.seen l.link) l.self;
+  any : (V : Voice g.row.H.Denot) (T : Teller g.row.H.Denot) → HoldsBy V T (g.L.Link.seen l.fn.link) l.fn.self
+      → RunsBy V T l.fn.self.calls (g.L.Link.seen l.link) l.self;
+  turning : Turning (shows l.fn.self) (shows l.self) (g.L.Link.seen l.fn.link) (g.L.Link.seen l.link) l.left;
+  counts : g.R.Runner.runs l.runner + l.left.runs ≡ g.R.Runner.runs l.fn.runner + 10;
+  steady : g.R.Runner.steady ≡ true → (ps : Pairs) (input : List ℕ) → g.R.Runner.answer l.runner ps input ≡ g.R.Runner.answer l.fn.runner ps input;
+}
+
+abbrev pub decreases-loop-self : goal.decreases-loop-self
+decreases-loop-self g l = work l.left l.self.at

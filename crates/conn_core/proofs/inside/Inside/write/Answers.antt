@@ -1,0 +1,156 @@
+use Rattle.std.proofs.Common.{◌≡◌, ◌<◌, ◌≤◌, ◌==◌, ℕ, List, [], length, true, false, refl, sym, ap, subst, ◌∙◌, arith}
+use Rattle.std.proofs.lemmas.Bool.Decides.{nat_tests}
+use Rattle.std.proofs.lemmas.List.{nil_from_length}
+use Rattle.rack_outside.specs.Link.{Seen}
+use Rattle.talk_core.specs.declared.ended.Why.TheVariants as why
+use Rattle.conn_core.specs.declared.place.At.{At}
+use Rattle.conn_core.specs.declared.place.At.TheVariants as at
+use Rattle.conn_core.specs.declared.state.State.TheVariants as state
+use Rattle.conn_core.specs.Calls.{TurnEnds, IsOfFlush}
+use Rattle.conn_core.specs.Holds.{kept, StandsAt}
+use Rattle.conn_core.specs.Inner.{SaysOn}
+use Rattle.conn_core.specs.Place.{state_at}
+use Rattle.conn_core.specs.Shown.{shows, replied_at, owed_at, why_at}
+use Rattle.conn_core.specs.Steps.{CompletesTo}
+use Rattle.conn_core.proofs.CompleteLemmas.{completes_hold}
+use Rattle.conn_core.proofs.PlaceLemmas.{stands_place}
+use Rattle.conn_core.proofs.SaidLemmas.{moved_by_write, filled_says, filled_ring, filled_state, SaidShown, said_on, said_over, said_whole, waiting_shown}
+use Rattle.conn_core.proofs.SayLemmas.{took, untaken, write_failed, write_lacks, with_ring}
+use Rattle.conn_core.proofs.inside.Inside.write.Goals as goal
+
+pub returns-then-is_empty-clause-holds : goal.returns-then-is_empty-clause-holds
+returns-then-is_empty-clause-holds g c = λ V T h.
+    let s = g.L.Link.seen c.args.link.now in
+    let s' = g.L.Link.seen c.send.new.link in
+    let p = c.args.self.now in
+    let none : c.send.new.ring.items ≡ [] =
+    nil_from_length c.send.new.ring.items (grind (arith, nat_tests, c.is_empty.ensures, c.if-is_empty.true)) in
+    let completes : CompletesTo p.at p.intake p.held c.complete-at.result c.complete-at.new.intake c.complete-at.new.held =
+    subst (λ (a : At g.row.B.Denot g.row.H.Denot). CompletesTo a p.intake p.held c.complete-at.result c.complete-at.new.intake c.complete-at.new.held)
+    c.replace-at.ensures.value c.complete-at.ensures in
+    stands_place c.complete-at.result c.put.new.at V T s' p.peer _ (sym c.put.ensures)
+    (completes_hold V T s' p.peer (with_ring (kept p) c.send.new.ring.items) c.complete-at.new.intake c.complete-at.new.held p.ring.items
+    c.send.new.ring.items p.at c.complete-at.result none refl completes c.requires
+    (took p.at V T s s' p.peer (kept p) (filled_says p.at p.ring.items c.requires) c.in-Took.ensures.keeps c.in-Took.ensures.sends.0
+    c.send.new.ring.items c.in-Took.ensures.sends.1 c.in-Took.ensures.sends.3 h))
+
+pub returns-then-is_empty-clause-says : goal.returns-then-is_empty-clause-says
+returns-then-is_empty-clause-says g c =
+    let s = g.L.Link.seen c.args.link.now in
+    let s' = g.L.Link.seen c.send.new.link in
+    let p = c.args.self.now in
+    let none : c.send.new.ring.items ≡ [] =
+    nil_from_length c.send.new.ring.items (grind (arith, nat_tests, c.is_empty.ensures, c.if-is_empty.true)) in
+    let completes : CompletesTo p.at p.intake p.held c.complete-at.result c.complete-at.new.intake c.complete-at.new.held =
+    subst (λ (a : At g.row.B.Denot g.row.H.Denot). CompletesTo a p.intake p.held c.complete-at.result c.complete-at.new.intake c.complete-at.new.held)
+    c.replace-at.ensures.value c.complete-at.ensures in
+    let shown : SaidShown p.at c.put.new.at p.ring.items c.send.new.ring.items p.calls s s' =
+    subst (λ (x : List ℕ). SaidShown p.at c.put.new.at p.ring.items x p.calls s s') (sym none)
+    (subst (λ (b : At g.row.B.Denot g.row.H.Denot). SaidShown p.at b p.ring.items [] p.calls s s') (sym c.put.ensures)
+    (said_whole p.at c.complete-at.result p.ring.items p.calls s s' p.intake c.complete-at.new.intake p.held c.complete-at.new.held
+    completes c.requires p.rests c.in-Took.ensures.keeps.over)) in
+    record {
+      moved = moved_by_write _ _ s s' refl refl refl c.in-Took.ensures.keeps refl;
+      came = refl;
+      given = c.in-Took.ensures.keeps.given;
+      calls = refl;
+      replied = shown.replied;
+      why = shown.why;
+      ends = shown.ends;
+      leaves = shown.less;
+    }
+
+pub returns-else-is_empty-clause-holds : goal.returns-else-is_empty-clause-holds
+returns-else-is_empty-clause-holds g c = λ V T h.
+    let s = g.L.Link.seen c.args.link.now in
+    let s' = g.L.Link.seen c.send.new.link in
+    let p = c.args.self.now in
+    took p.at V T s s' p.peer (kept p) (filled_says p.at p.ring.items c.requires) c.in-Took.ensures.keeps c.in-Took.ensures.sends.0
+    c.send.new.ring.items c.in-Took.ensures.sends.1 c.in-Took.ensures.sends.3 h
+
+pub returns-else-is_empty-clause-says : goal.returns-else-is_empty-clause-says
+returns-else-is_empty-clause-says g c =
+    let s = g.L.Link.seen c.args.link.now in
+    let s' = g.L.Link.seen c.send.new.link in
+    let p = c.args.self.now in
+    let shown : SaidShown p.at p.at p.ring.items c.send.new.ring.items p.calls s s' =
+    said_on p.at p.ring.items c.in-Took.ensures.sends.0 c.send.new.ring.items p.calls s s' c.requires c.in-Took.ensures.sends.1
+    c.in-Took.ensures.sends.2 c.in-Took.ensures.keeps.over in
+    record {
+      moved = moved_by_write _ _ s s' refl refl refl c.in-Took.ensures.keeps refl;
+      came = refl;
+      given = c.in-Took.ensures.keeps.given;
+      calls = refl;
+      replied = shown.replied;
+      why = shown.why;
+      ends = shown.ends;
+      leaves = shown.less;
+    }
+
+pub returns-in-NotYet-clause-says : goal.returns-in-NotYet-clause-says
+returns-in-NotYet-clause-says g c =
+    let s = g.L.Link.seen c.args.link.now in
+    let s' = g.L.Link.seen c.send.new.link in
+    let p = c.args.self.now in
+    let shown = waiting_shown p.at p.ring.items p.calls s s' c.requires c.in-NotYet.ensures.keeps.over in
+    record {
+      moved = moved_by_write _ _ s s' refl refl refl c.in-NotYet.ensures.keeps refl;
+      came = refl;
+      given = c.in-NotYet.ensures.keeps.given;
+      calls = refl;
+      replied = shown.0;
+      why = shown.1;
+      ends = shown.2;
+      leaves = (
+        filled_state p.at p.ring.items c.requires,
+        c.in-NotYet.ensures.sends.2,
+        subst (λ (x : List ℕ). length (owed_at p.at x) ≤ length (owed_at p.at p.ring.items)) (sym c.in-NotYet.ensures.sends.0) (omega arith),
+      );
+    }
+
+pub returns-in-Failed-clause-holds : goal.returns-in-Failed-clause-holds
+returns-in-Failed-clause-holds g c = λ V T h.
+    let s = g.L.Link.seen c.args.link.now in
+    let s' = g.L.Link.seen c.send.new.link in
+    let p = c.args.self.now in
+    stands_place (at.Over why.WriteFailed) c.put-in-Failed.new.at V T s' p.peer _ (sym c.put-in-Failed.ensures)
+    (write_failed p.at V T s s' p.peer (kept p) (filled_says p.at p.ring.items c.requires) c.in-Failed.ensures.keeps _ refl
+    (filled_ring p.at p.ring.items c.requires) c.in-Failed.ensures.sends.1 c.in-Failed.ensures.sends.2 h)
+
+pub returns-in-Failed-clause-says : goal.returns-in-Failed-clause-says
+returns-in-Failed-clause-says g c =
+    let s = g.L.Link.seen c.args.link.now in
+    let s' = g.L.Link.seen c.send.new.link in
+    let p = c.args.self.now in
+    let shown : SaidShown p.at c.put-in-Failed.new.at p.ring.items c.send.new.ring.items p.calls s s' =
+    subst (λ (b : At g.row.B.Denot g.row.H.Denot). SaidShown p.at b p.ring.items c.send.new.ring.items p.calls s s') (sym c.put-in-Failed.ensures)
+    (said_over p.at why.WriteFailed p.ring.items c.send.new.ring.items p.calls s s' tt (c.in-Failed.ensures.keeps.over, c.in-Failed.ensures.sends.2)) in
+    record {
+      moved = moved_by_write _ _ s s' refl refl refl c.in-Failed.ensures.keeps refl;
+      came = refl;
+      given = c.in-Failed.ensures.keeps.given;
+      calls = refl;
+      replied = shown.replied;
+      why = shown.why;
+      ends = shown.ends;
+      leaves = shown.less;
+    }
+
+pub returns-in-NoMemory-clause-says : goal.returns-in-NoMemory-clause-says
+returns-in-NoMemory-clause-says g c =
+    let s = g.L.Link.seen c.args.link.now in
+    let s' = g.L.Link.seen c.send.new.link in
+    let p = c.args.self.now in
+    let shown : SaidShown p.at c.put-in-NoMemory.new.at p.ring.items c.send.new.ring.items p.calls s s' =
+    subst (λ (b : At g.row.B.Denot g.row.H.Denot). SaidShown p.at b p.ring.items c.send.new.ring.items p.calls s s') (sym c.put-in-NoMemory.ensures)
+    (said_over p.at why.NoMemory p.ring.items c.send.new.ring.items p.calls s s' tt c.in-NoMemory.ensures.keeps.over) in
+    record {
+      moved = moved_by_write _ _ s s' refl refl refl c.in-NoMemory.ensures.keeps refl;
+      came = refl;
+      given = c.in-NoMemory.ensures.keeps.given;
+      calls = refl;
+      replied = shown.replied;
+      why = shown.why;
+      ends = shown.ends;
+      leaves = shown.less;
+    }

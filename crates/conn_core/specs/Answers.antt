@@ -1,0 +1,33 @@
+-- What answers say of a place. This serves inner contracts alone.
+use Rattle.std.specs.Prelude.{◌≡◌, ◌≢◌, ℕ, ◌<◌, Bool, true, false, ◌⊎◌}
+use Rattle.conn_core.specs.declared.left.Left.{Left}
+use Rattle.conn_core.specs.declared.place.At.{At}
+use Rattle.conn_core.specs.declared.state.Next.{Next}
+use Rattle.conn_core.specs.declared.state.Next.TheVariants as next
+use Rattle.conn_core.specs.declared.state.State.TheVariants as state
+use Rattle.conn_core.specs.Inner.{IsSpentLeft}
+use Rattle.conn_core.specs.Place.{state_at}
+
+-- behind a read that gave bytes
+abbrev pub FedSo : {B H : Type 0} → Next → At B H → Type 0
+FedSo {B} {H} next.Waiting a = ⊥
+FedSo {B} {H} next.More a = (state_at a ≢ state.Over) × (state_at a ≢ state.Ready)
+FedSo {B} {H} next.Ready a = state_at a ≡ state.Ready
+FedSo {B} {H} next.TurnOver a = ⊥
+FedSo {B} {H} next.Over a = state_at a ≡ state.Over
+
+-- behind a turn, of which this is left
+abbrev pub TurnedSo : {B H : Type 0} → Next → At B H → Left → Bool → Type 0
+TurnedSo {B} {H} next.Waiting a left more = (state_at a ≢ state.Over) × ¬ (IsSpentLeft left) × (left.came ≡ 0) × (more ≡ false)
+TurnedSo {B} {H} next.More a left more = (state_at a ≢ state.Over) × ¬ (IsSpentLeft left) × ((0 < left.came) ⊎ (more ≡ true))
+TurnedSo {B} {H} next.Ready a left more = ⊥
+TurnedSo {B} {H} next.TurnOver a left more = (state_at a ≢ state.Over) × IsSpentLeft left
+TurnedSo {B} {H} next.Over a left more = state_at a ≡ state.Over
+
+-- behind so many writes
+abbrev pub FlushedSo : {B H : Type 0} → Next → At B H → ℕ → Type 0
+FlushedSo {B} {H} next.Waiting a writes = (state_at a ≡ state.Answering) × (writes ≢ 16)
+FlushedSo {B} {H} next.More a writes = (state_at a ≡ state.Reading) × (writes ≢ 16)
+FlushedSo {B} {H} next.Ready a writes = (state_at a ≡ state.Ready) × (writes ≢ 16)
+FlushedSo {B} {H} next.TurnOver a writes = (state_at a ≢ state.Over) × (writes ≡ 16)
+FlushedSo {B} {H} next.Over a writes = state_at a ≡ state.Over

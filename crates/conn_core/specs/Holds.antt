@@ -1,0 +1,91 @@
+-- What a connection stands for between its steps, by where it is.
+use Rattle.std.specs.Prelude.{◌≡◌, ℕ, suc, ◌+◌, ◌-◌, ◌^◌, min, Bool, List, [], ◌++◌, length, Option, None}
+use Rattle.rack_types.specs.declared.fault.Fault.{Fault}
+use Rattle.rack_types.specs.declared.peer.Local.{Local}
+use Rattle.rack_types.specs.Request.{Parts}
+use Rattle.rack_types.specs.declared.body.Body.{Ghosts}
+use Rattle.rack_outside.specs.Link.{Seen}
+use Rattle.message_framing.specs.declared.intake.Intake.{Intake}
+use Rattle.message_framing.specs.Intake.{Fed}
+use Rattle.message_framing.specs.Request.{IsRequest, Refusal, Wanting}
+use Rattle.reply_framing.specs.Owes.{Owes}
+use Rattle.talk_core.specs.Ended.{Past, Shows, AreLives}
+use Rattle.talk_core.specs.Stands.{Stands, silent, replies, refuses}
+use Rattle.talk_core.specs.Tail.{Voice}
+use Rattle.talk_core.specs.Teller.{Stacks, Teller, tell}
+use Rattle.conn_core.specs.declared.conn.Conn.{Conn}
+use Rattle.conn_core.specs.declared.inside.Inside.{Inside}
+use Rattle.conn_core.specs.declared.place.At.{At}
+use Rattle.conn_core.specs.declared.place.At.TheVariants as at
+use Rattle.conn_core.specs.Plain.{EndsPlainly}
+use Rattle.conn_core.specs.Rests.{after_of}
+
+-- the parts that the meaning of a place rests on
+pub record Kept : Type 0 where
+  pub intake : Intake
+  pub held : List ℕ
+  pub ring : List ℕ
+  pub calls : ℕ
+
+-- what a connection has behind it
+abbrev pub past : Seen → ℕ → List ℕ → List ℕ → Bool → Past
+past s calls given sent over = record {
+  given = given;
+  sent = sent;
+  over = over;
+  failed_reads = s.failed_reads;
+  failed_writes = s.failed_writes;
+  calls = calls;
+  told = 0;
+  closing = None;
+}
+
+-- nothing is owed: the intake was fed these bytes, and those held come behind them
+pub record Between {H : Type 0} (V : Voice H) (T : Teller H) (over : Bool) (given sent : List ℕ) (c : Kept) (now : List ℕ) : Type 0 where
+  pub fed : Fed c.intake now
+  pub ring : c.ring ≡ []
+  pub stands : Stands V T over given sent c.calls silent (now ++ c.held) []
+
+-- a reply is under way: what is owed of it is in the ring and behind it, and the bytes held come behind its request
+pub record Replying {H : Type 0} (V : Voice H) (T : Teller H) (over : Bool) (given sent : List ℕ) (c : Kept) (k : ℕ) (r : Parts)
+    (behind : List ℕ) : Type 0 where
+  pub count : c.calls ≡ suc k
+  pub stands : Stands V T over given sent k (replies r) c.held (c.ring ++ behind)
+
+abbrev pub HoldsAt : {B H : Type 0} → At B H → Voice H → Teller H → Seen → Bool → List ℕ → List ℕ → Kept → Type 0
+HoldsAt {B} {H} at.Reading V T s over given sent c =
+    (now : List ℕ) × Wanting now × (c.held ≡ []) × Between V T over given sent c now
+HoldsAt {B} {H} at.Asked V T s over given sent c =
+    (now : List ℕ) × (r : Parts) × IsRequest now r × Between V T over given sent c now
+HoldsAt {B} {H} (at.Refused f) V T s over given sent c =
+    (now : List ℕ) × Refusal now f × (c.held ≡ []) × Between V T over given sent c now
+HoldsAt {B} {H} (at.Answering f) V T s over given sent c =
+    (k : ℕ) × (r : Parts) × (said : List ℕ) × Owes f (T k r) said × Replying V T over given sent c k r f.rest.bytes
+HoldsAt {B} {H} (at.Writing keeps) V T s over given sent c =
+    (k : ℕ) × (r : Parts) × (after_of keeps ≡ (T k r).after) × Replying V T over given sent c k r []
+HoldsAt {B} {H} at.Refusing V T s over given sent c =
+    (f : Fault) × (rest : List ℕ) × Stands V T over given sent c.calls (refuses f) rest c.ring
+HoldsAt {B} {H} (at.Over why) V T s over given sent c = EndsPlainly why V T (past s c.calls given sent over)
+
+-- a connection at this place stands for its talk, over these replies: what its link tells, and what it keeps
+pub record StandsAt {B H : Type 0} (V : Voice H) (T : Teller H) (s : Seen) (peer : List ℕ) (a : At B H) (c : Kept) : Type 0 where
+  pub given : List ℕ
+  pub sent : List ℕ
+  pub over : Bool
+  pub shows : Shows s peer given sent over
+  pub at : HoldsAt a V T s over given sent c
+
+abbrev pub kept : {B H : Type 0} {g : Ghosts B} → Inside B H g → Kept
+kept {B} {H} {g} p = record { intake = p.intake; held = p.held; ring = p.ring.items; calls = p.calls }
+
+abbrev pub HoldsBy : {B H : Type 0} {g : Ghosts B} → Voice H → Teller H → Seen → Inside B H g → Type 0
+HoldsBy {B} {H} {g} V T s p = StandsAt V T s p.peer p.at (kept p)
+
+-- the same of a connection, whose link shows this: it is carried by its owner, from `open` to `finish`
+abbrev pub HoldsWith : {L B H : Type 0} {g : Ghosts B} → (L → Seen) → Voice H → Teller H → Conn L B H g → Type 0
+HoldsWith {L} {B} {H} {g} seen V T c = HoldsBy V T (seen c.link) c.inside.value
+
+-- the same over stacks
+pub record Holds {L B H : Type 0} {g : Ghosts B} (seen : L → Seen) (V : Voice H) (S : Stacks H) (c : Conn L B H g) : Type 0 where
+  pub lives_are : AreLives c.inside.value.lives.items
+  pub stands : HoldsWith seen V (tell S c.inside.value.lives.items c.inside.value.local c.inside.value.peer None) c

@@ -1,0 +1,157 @@
+-- What the steps of a connection leave of what it shows. This serves inner contracts alone.
+use Rattle.std.specs.Prelude.{◌≡◌, ◌≢◌, ℕ, ◌+◌, ◌-◌, ◌*◌, ◌<◌, ◌≤◌, Bool, true, false, List, [], length, Option, None, Some, ◌⊎◌, ⊤}
+use Rattle.rack_types.specs.declared.answer.Answer.{Answer}
+use Rattle.rack_types.specs.declared.peer.Local.{Local}
+use Rattle.rack_types.specs.Body.{Content}
+use Rattle.rack_types.specs.Env.{Pairs}
+use Rattle.rack_types.specs.Request.{Parts}
+use Rattle.rack_env.specs.Environment.{env_pairs}
+use Rattle.rack_outside.specs.Link.{Seen}
+use Rattle.rack_outside.specs.Told.{Rose}
+use Rattle.rack_outside.specs.declared.link.LinkRead.{LinkRead}
+use Rattle.rack_outside.specs.declared.link.LinkRead.TheVariants as read
+use Rattle.talk_core.specs.Counts.{counted_by}
+use Rattle.talk_core.specs.declared.ended.Why.TheVariants as why
+use Rattle.talk_core.specs.Teller.{Stack, Teller, reply_of, is_last}
+use Rattle.conn_core.specs.declared.left.Left.{Left}
+use Rattle.conn_core.specs.declared.left.Said.{Said}
+use Rattle.conn_core.specs.declared.left.Said.TheVariants as said
+use Rattle.conn_core.specs.declared.left.Step.{Step}
+use Rattle.conn_core.specs.declared.left.Step.TheVariants as step
+use Rattle.conn_core.specs.declared.place.At.{At}
+use Rattle.conn_core.specs.declared.place.At.TheVariants as at
+use Rattle.conn_core.specs.declared.state.State.{State}
+use Rattle.conn_core.specs.declared.state.State.TheVariants as state
+use Rattle.conn_core.specs.Place.{state_at}
+use Rattle.conn_core.specs.Shown.{Shown, Moved}
+use Rattle.conn_core.specs.Calls.{TurnEnds, IsOfFeed, IsOfFlush, IsSpent, RestsBehind}
+
+-- behind bytes that were fed the connection reads on, is ready, or wanted memory
+abbrev pub IsFed : State → Type 0
+IsFed state.Reading = ⊤
+IsFed state.Ready = ⊤
+IsFed state.Answering = ⊥
+IsFed state.Hijacked = ⊥
+IsFed state.Over = ⊤
+
+-- how a read went
+abbrev pub ReadLeaves : LinkRead → Shown → List ℕ → Seen → Seen → Type 0
+ReadLeaves (read.Bytes n) new came s s' = (n ≡ length came) × (0 < n) × IsFed new.state
+ReadLeaves read.NotYet new came s s' = (came ≡ []) × (new.state ≡ state.Reading) × Rose s.waits s'.waits
+ReadLeaves read.End new came s s' = (came ≡ []) × (new.state ≡ state.Over)
+ReadLeaves read.Failed new came s s' = (came ≡ []) × (new.state ≡ state.Over)
+
+pub record ReadsBy (result : LinkRead) (old new : Shown) (s s' : Seen) : Type 0 where
+  pub moved : Moved old new s s' 1 0
+  pub calls : new.calls ≡ old.calls
+  pub replied : new.replied ≡ old.replied
+  pub sent : s'.sent ≡ s.sent
+  pub why : IsOfFeed new.why
+  pub ends : TurnEnds new.why s s'
+  pub leaves : ReadLeaves result new moved.came s s'
+
+-- the peer, the local side, the lives and the bytes taken are as before
+pub record SameShown (old new : Shown) : Type 0 where
+  pub peer : new.peer ≡ old.peer
+  pub local : new.local ≡ old.local
+  pub lives : new.lives ≡ old.lives
+  pub taken : new.taken ≡ old.taken
+
+-- how a request or a refusal was taken up, by so many runs: a reply is under way, or memory was refused
+pub record Starts (runs : ℕ) (old new : Shown) : Type 0 where
+  pub same : SameShown old new
+  pub calls : new.calls ≡ old.calls + runs
+  pub place : ((new.state ≡ state.Answering) × (new.why ≡ None) × (new.replied ≡ old.replied))
+      ⊎ ((new.state ≡ state.Over) × (new.why ≡ Some why.NoMemory))
+
+-- the run of a request was made, or memory was refused before it
+abbrev pub runs_of : Bool → ℕ
+runs_of true = 1
+runs_of false = 0
+
+-- the replies are those by this answer to the requests of such a connection
+abbrev pub TellsBy : {H : Type 0} → Teller H → Stack H → Local → List ℕ → Type 0
+TellsBy {H} T answer local peer =
+    (k : ℕ) (r : Parts) → T k r ≡ reply_of answer (env_pairs r peer local) r (is_last None k)
+
+-- the writes of a step that says
+abbrev pub writes_of : Said → ℕ
+writes_of said.Unwritten = 0
+writes_of said.Wrote = 1
+writes_of said.Waits = 1
+
+-- how such a step went
+abbrev pub SaidLeaves : Said → Shown → Shown → Seen → Seen → Type 0
+SaidLeaves said.Unwritten old new s s' = new.state ≡ state.Over
+SaidLeaves said.Wrote old new s s' = new.state ≡ state.Answering → length new.owed < length old.owed
+SaidLeaves said.Waits old new s s' = (new.state ≡ state.Answering) × Rose s.waits s'.waits × (length new.owed ≤ length old.owed)
+
+-- more replies were sent whole, where the connection rests behind it
+abbrev pub SaysOn : State → ℕ → ℕ → Type 0
+SaysOn state.Reading before replied = before < replied
+SaysOn state.Ready before replied = before < replied
+SaysOn state.Answering before replied = replied ≡ before
+SaysOn state.Hijacked before replied = ⊥
+SaysOn state.Over before replied = ⊤
+
+pub record Says (result : Said) (old new : Shown) (s s' : Seen) : Type 0 where
+  pub moved : Moved old new s s' 0 (writes_of result)
+  pub came : moved.came ≡ []
+  pub given : s'.given ≡ s.given
+  pub calls : new.calls ≡ old.calls
+  pub replied : SaysOn new.state old.replied new.replied
+  pub why : IsOfFlush new.why
+  pub ends : TurnEnds new.why s s'
+  pub leaves : SaidLeaves result old new s s'
+
+-- one step of a turn: where a connection rests behind so many replies before it, it does behind it; and what ended
+-- it since then, ended it since then
+pub record Steps (old new : Shown) (s s' : Seen) (l l' : Left) : Type 0 where
+  pub moved : Moved old new s s' (l.reads - l'.reads) (l.writes - l'.writes)
+  pub came : l'.came ≡ counted_by (length moved.came) l.came
+  pub calls : new.calls + l'.runs ≡ old.calls + l.runs
+  pub few : (l'.runs ≤ l.runs) × (l'.reads ≤ l.reads) × (l'.writes ≤ l.writes)
+  pub replied : (n : ℕ) → RestsBehind old.state n old.replied → RestsBehind new.state n new.replied
+  pub ends : (first : Seen) → first.failed_reads ≤ s.failed_reads → first.failed_writes ≤ s.failed_writes
+      → TurnEnds old.why first s → TurnEnds new.why first s'
+
+-- what falls with each step that was made
+abbrev pub rank : {B H : Type 0} → At B H → ℕ
+rank {B} {H} at.Reading = 1
+rank {B} {H} at.Asked = 1
+rank {B} {H} (at.Refused f) = 2
+rank {B} {H} (at.Answering f) = 1
+rank {B} {H} (at.Writing keeps) = 1
+rank {B} {H} at.Refusing = 1
+rank {B} {H} (at.Over ended) = 0
+
+abbrev pub work : {B H : Type 0} → Left → At B H → ℕ
+work {B} {H} l a = 3 * (l.runs + l.reads + l.writes) + rank a
+
+-- no run, read or write is left
+abbrev pub IsSpentLeft : Left → Type 0
+IsSpentLeft l = (l.runs ≡ 0) ⊎ ((l.reads ≡ 0) ⊎ (l.writes ≡ 0))
+
+-- how a step went: it was made, and less is left to do; the link had to wait; or none may be made
+abbrev pub StepLeaves : {B H : Type 0} → Step → Left → Left → At B H → At B H → Seen → Seen → Type 0
+StepLeaves {B} {H} step.GoesOn l l' a b s s' = work l' b < work l a
+StepLeaves {B} {H} step.Waits l l' a b s s' = Rose s.waits s'.waits
+StepLeaves {B} {H} step.Stops l l' a b s s' = (state_at b ≡ state.Over) ⊎ IsSpentLeft l'
+
+-- a ring was filled from a reply that is under way, or memory was refused
+abbrev pub FillsShown : Bool → Shown → Shown → Type 0
+FillsShown true old new =
+    SameShown old new × (new.calls ≡ old.calls) × (new.replied ≡ old.replied) × (new.owed ≡ old.owed)
+    × (new.state ≡ state.Answering) × (new.why ≡ None)
+FillsShown false old new =
+    SameShown old new × (new.calls ≡ old.calls) × (new.state ≡ state.Over) × (new.why ≡ Some why.NoMemory)
+
+-- bytes are in the ring, and where a framer has the rest of the reply, more come
+abbrev pub IsFilledAt : {B H : Type 0} → At B H → List ℕ → Type 0
+IsFilledAt {B} {H} at.Reading ring = ⊥
+IsFilledAt {B} {H} at.Asked ring = ⊥
+IsFilledAt {B} {H} (at.Refused f) ring = ⊥
+IsFilledAt {B} {H} (at.Answering f) ring = (0 < length ring) × (0 < length f.rest.bytes)
+IsFilledAt {B} {H} (at.Writing keeps) ring = 0 < length ring
+IsFilledAt {B} {H} at.Refusing ring = 0 < length ring
+IsFilledAt {B} {H} (at.Over ended) ring = ⊥

@@ -1,0 +1,11 @@
+pub mod Place
+pub mod Rests
+pub mod Steps
+pub mod Plain
+pub mod Holds
+pub mod Shown
+pub mod Calls
+pub mod Inner
+pub mod Answers
+pub mod Opened
+pub mod Runs

@@ -1,0 +1,48 @@
+-- A connection at its start, and one that could not be opened.
+use Rattle.std.specs.Prelude.{◌≡◌, ℕ, List, [], ◌∷◌, None}
+use Rattle.rack_types.specs.declared.peer.Local.{Local}
+use Rattle.rack_types.specs.declared.body.Body.{Ghosts}
+use Rattle.message_framing.specs.Intake.{Fed}
+use Rattle.talk_core.specs.declared.ended.Ended.{Ended}
+use Rattle.talk_core.specs.declared.ended.Life.{Life}
+use Rattle.talk_core.specs.declared.ended.Why.TheVariants as why
+use Rattle.conn_core.specs.declared.inside.Inside.{Inside}
+use Rattle.conn_core.specs.declared.place.At.TheVariants as at
+use Rattle.conn_core.specs.declared.state.State.TheVariants as state
+use Rattle.conn_core.specs.Shown.{Shown}
+
+-- what a connection shows at its start: one life, and nothing was run, read or said
+abbrev pub opened : List ℕ → Local → ℕ → Shown
+opened peer local phase = record {
+  peer = peer;
+  local = local;
+  lives = record { first = 0; phase = phase } ∷ [];
+  calls = 0;
+  replied = 0;
+  taken = 0;
+  owed = [];
+  state = state.Reading;
+  why = None;
+}
+
+-- memory was refused: the link is handed back, and nothing was run
+pub record IsUnopened {L : Type 0} (number : ℕ) (link : L) (e : Ended L) : Type 0 where
+  pub number_is : e.number ≡ number
+  pub link_is : e.link ≡ link
+  pub lives_are : e.lives.items ≡ []
+  pub calls_are : e.calls ≡ 0
+  pub told_is : e.told ≡ 0
+  pub closing_is : e.closing ≡ None
+  pub why_is : e.why ≡ why.NoMemory
+
+-- the parts of a connection at its start
+pub record IsFresh {B H : Type 0} {g : Ghosts B} (peer : List ℕ) (local : Local) (phase : ℕ) (p : Inside B H g) : Type 0 where
+  pub peer_is : p.peer ≡ peer
+  pub local_is : p.local ≡ local
+  pub lives_are : p.lives.items ≡ record { first = 0; phase = phase } ∷ []
+  pub fed : Fed p.intake []
+  pub held : p.held ≡ []
+  pub ring : p.ring.items ≡ []
+  pub calls : p.calls ≡ 0
+  pub taken : p.taken ≡ 0
+  pub at_is : p.at ≡ at.Reading

@@ -1,0 +1,40 @@
+-- How a connection ended on which nothing was timed out or handed over: what was being said is named, where some
+-- of it is lacking.
+use Rattle.std.specs.Prelude.{◌≢◌, ℕ, ◌<◌, Bool, List, []}
+use Rattle.rack_types.specs.declared.peer.Local.{Local}
+use Rattle.rack_outside.specs.Link.{Seen}
+use Rattle.talk_core.specs.declared.ended.Ended.{Ended}
+use Rattle.talk_core.specs.declared.ended.Why.{Why}
+use Rattle.talk_core.specs.declared.ended.Why.TheVariants as why
+use Rattle.talk_core.specs.Ended.{Past, EndsBy, Shows, past_of}
+use Rattle.talk_core.specs.Stands.{Word, Partly, IsPlain}
+use Rattle.talk_core.specs.Tail.{Voice}
+use Rattle.talk_core.specs.Teller.{Stacks, Teller, tell}
+
+-- of what was being said, a reply, a refusal or nothing, this is lacking
+pub record LacksPlainly {H : Type 0} (V : Voice H) (T : Teller H) (p : Past) (lacks : List ℕ) : Type 0 where
+  pub word : Word H
+  pub plain : IsPlain word
+  pub partly : Partly V T p.over p.given p.sent p.calls p.closing word lacks
+
+abbrev pub EndsPlainly : {H : Type 0} → Why → Voice H → Teller H → Past → Type 0
+EndsPlainly why.Closed V T p = EndsBy why.Closed V T p
+EndsPlainly why.PeerEnd V T p = EndsBy why.PeerEnd V T p
+EndsPlainly (why.Idle by) V T p = EndsBy (why.Idle by) V T p
+EndsPlainly (why.TimedOut since now) V T p = EndsBy (why.TimedOut since now) V T p
+EndsPlainly (why.Stalled since now) V T p = EndsBy (why.Stalled since now) V T p
+EndsPlainly (why.Unread level) V T p = EndsBy (why.Unread level) V T p
+EndsPlainly why.ReadFailed V T p = EndsBy why.ReadFailed V T p
+EndsPlainly why.WriteFailed V T p = (0 < p.failed_writes) × ((lacks : List ℕ) × LacksPlainly V T p lacks × (lacks ≢ []))
+EndsPlainly (why.Halted level) V T p = EndsBy (why.Halted level) V T p
+EndsPlainly why.NoMemory V T p = (lacks : List ℕ) × LacksPlainly V T p lacks
+EndsPlainly why.Hijacked V T p = EndsBy why.Hijacked V T p
+
+-- an ended connection, over these stacks and hijackers and this local side
+pub record IsPlainEnd (L : Type 0) (seen : L → Seen) {H : Type 0} (V : Voice H) (S : Stacks H) (local : Local) (e : Ended L) : Type 0 where
+  pub peer : List ℕ
+  pub given : List ℕ
+  pub sent : List ℕ
+  pub over : Bool
+  pub shows : Shows (seen e.link) peer given sent over
+  pub ends : EndsPlainly e.why V (tell S e.lives.items local peer e.closing) (past_of (seen e.link) e given sent over)

@@ -1,0 +1,99 @@
+-- What contracts see of a connection.
+use Rattle.std.specs.Prelude.{◌≡◌, ℕ, ◌-◌, ◌≤◌, List, [], ◌++◌, length, Option, None, Some}
+use Rattle.rack_types.specs.declared.peer.Local.{Local}
+use Rattle.rack_types.specs.declared.body.Body.{Ghosts}
+use Rattle.rack_outside.specs.Link.{Seen}
+use Rattle.rack_outside.specs.Told.{appended}
+use Rattle.talk_core.specs.Counts.{counted_by}
+use Rattle.talk_core.specs.declared.ended.Life.{Life}
+use Rattle.talk_core.specs.declared.ended.Why.{Why}
+use Rattle.conn_core.specs.declared.conn.Conn.{Conn}
+use Rattle.conn_core.specs.declared.inside.Inside.{Inside}
+use Rattle.conn_core.specs.declared.place.At.{At}
+use Rattle.conn_core.specs.declared.place.At.TheVariants as at
+use Rattle.conn_core.specs.declared.state.State.{State}
+use Rattle.conn_core.specs.Place.{state_at}
+
+-- what a connection shows: the peer, the local side and its lives; how many requests were run, and to how many of
+-- them the reply was sent whole; how many bytes were read, up to 2^64 - 1; the bytes that are owed; its state; and,
+-- where that is Over, why
+pub record Shown : Type 0 where
+  pub peer : List ℕ
+  pub local : Local
+  pub lives : List Life
+  pub calls : ℕ
+  pub replied : ℕ
+  pub taken : ℕ
+  pub owed : List ℕ
+  pub state : State
+  pub why : Option Why
+
+-- how many replies to requests were sent whole at this place, behind so many runs
+abbrev pub replied_at : {B H : Type 0} → At B H → ℕ → ℕ
+replied_at {B} {H} at.Reading calls = calls
+replied_at {B} {H} at.Asked calls = calls
+replied_at {B} {H} (at.Refused f) calls = calls
+replied_at {B} {H} (at.Answering f) calls = calls - 1
+replied_at {B} {H} (at.Writing keeps) calls = calls - 1
+replied_at {B} {H} at.Refusing calls = calls
+replied_at {B} {H} (at.Over why) calls = calls
+
+-- what is owed at this place, with these bytes in the ring
+abbrev pub owed_at : {B H : Type 0} → At B H → List ℕ → List ℕ
+owed_at {B} {H} at.Reading ring = ring
+owed_at {B} {H} at.Asked ring = ring
+owed_at {B} {H} (at.Refused f) ring = ring
+owed_at {B} {H} (at.Answering f) ring = ring ++ f.rest.bytes
+owed_at {B} {H} (at.Writing keeps) ring = ring
+owed_at {B} {H} at.Refusing ring = ring
+owed_at {B} {H} (at.Over why) ring = []
+
+abbrev pub why_at : {B H : Type 0} → At B H → Option Why
+why_at {B} {H} at.Reading = None
+why_at {B} {H} at.Asked = None
+why_at {B} {H} (at.Refused f) = None
+why_at {B} {H} (at.Answering f) = None
+why_at {B} {H} (at.Writing keeps) = None
+why_at {B} {H} at.Refusing = None
+why_at {B} {H} (at.Over why) = Some why
+
+abbrev pub shows : {B H : Type 0} {g : Ghosts B} → Inside B H g → Shown
+shows {B} {H} {g} p = record {
+  peer = p.peer;
+  local = p.local;
+  lives = p.lives.items;
+  calls = p.calls;
+  replied = replied_at p.at p.calls;
+  taken = p.taken;
+  owed = owed_at p.at p.ring.items;
+  state = state_at p.at;
+  why = why_at p.at;
+}
+
+abbrev pub shown : {L B H : Type 0} {g : Ghosts B} → Conn L B H g → Shown
+shown {L} {B} {H} {g} c = shows c.inside.value
+
+abbrev pub number_of : {L B H : Type 0} {g : Ghosts B} → Conn L B H g → ℕ
+number_of {L} {B} {H} {g} c = c.number
+
+abbrev pub link_of : {L B H : Type 0} {g : Ghosts B} → Conn L B H g → L
+link_of {L} {B} {H} {g} c = c.link
+
+-- what a call with so many reads and writes leaves: the connection is the same one on the same link, no count of
+-- the link fell, and these bytes came
+pub record Moved (old new : Shown) (before after : Seen) (reads writes : ℕ) : Type 0 where
+  pub peer : new.peer ≡ old.peer
+  pub local : new.local ≡ old.local
+  pub lives : new.lives ≡ old.lives
+  pub tag : after.tag ≡ before.tag
+  pub link_peer : after.peer ≡ before.peer
+  pub borrows : after.borrows ≡ before.borrows
+  pub input : after.input ≡ before.input
+  pub waits : before.waits ≤ after.waits
+  pub failed_reads : before.failed_reads ≤ after.failed_reads
+  pub failed_writes : before.failed_writes ≤ after.failed_writes
+  pub reads_are : after.reads ≡ counted_by reads before.reads
+  pub writes_are : after.writes ≡ counted_by writes before.writes
+  pub came : List ℕ
+  pub given : after.given ≡ appended before.given came
+  pub taken : new.taken ≡ counted_by (length came) old.taken

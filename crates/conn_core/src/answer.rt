@@ -1,0 +1,96 @@
+// A request is run, or a refusal is named, and a reply begins.
+ghost use Rattle.std.specs.Prelude.{◌≡◌, ◌<◌, ◌≤◌, ◌+◌, ◌-◌, ◌^◌, ℕ, List, true, false};
+ghost use Rattle.rack_types.specs.Env.{Pairs};
+ghost use Rattle.rack_types.specs.Request.{Parts};
+ghost use Rattle.rack_env.specs.Environment.{env_pairs};
+ghost use Rattle.rack_outside.specs.Link.{Seen};
+ghost use Rattle.reply_framing.specs.Hands.{HandsToNobody};
+ghost use Rattle.talk_core.specs.Tail.{Voice};
+ghost use Rattle.talk_core.specs.Teller.{Teller, reply_of, is_last};
+ghost use Rattle.conn_core.specs.Holds.{HoldsBy};
+ghost use Rattle.conn_core.specs.Inner.{Starts, runs_of, TellsBy, work};
+ghost use Rattle.conn_core.specs.Place.{state_at};
+ghost use Rattle.conn_core.specs.Runs.{RunsBy};
+ghost use Rattle.conn_core.specs.Shown.{shows};
+
+use crate::inside::Inside;
+use crate::left::Left;
+use crate::place::{At, put};
+use crate::state::State;
+use crate::steps::{prepare, run};
+use rack_types::{Body, Fault, Runner};
+use reply_framing::put_fault;
+use talk_core::Why;
+
+// The number of the last request, counted from 0.
+const LAST: u64 = 9_999;
+
+impl<B: Body, H: Drop> Inside<B, H> {
+    // Runs the request that stands, and begins its reply. It tells whether the run was made.
+    fn answer<R: Runner<B, H>>(&mut self, runner: &mut R) -> bool
+        requires at { self.old.at ≡ At.Asked }
+        requires room { R.runs runner.old < 2 ^ 64 - 1 }
+        requires untaken { (ps : Pairs) (input : List ℕ) → HandsToNobody (R.answer runner.old ps input) }
+        ensures holds { (V : Voice H) (T : Teller H) (s : Seen)
+            → ((r : Parts) → T self.old.calls r ≡ reply_of (R.answer runner.old) (env_pairs r self.old.peer self.old.local) r (is_last None self.old.calls))
+            → HoldsBy V T s self.old → HoldsBy V T s self.new }
+        ensures any { (V : Voice H) (T : Teller H) (s : Seen) → HoldsBy V T s self.old → RunsBy V T self.old.calls s self.new }
+        ensures starts { Starts (runs_of result) (shows self.old) (shows self.new) }
+        ensures unrun { result ≡ false → state_at self.new.at ≡ State.Over }
+        ensures counts { R.runs runner.new ≡ R.runs runner.old + runs_of result }
+        ensures steady { R.steady ≡ true → (ps : Pairs) (input : List ℕ) → R.answer runner.new ps input ≡ R.answer runner.old ps input }
+    {
+        match prepare(&mut self.intake, &mut self.env, &self.peer, &self.local) {
+            Ok(ask) => {
+                let last = self.calls == LAST;
+                let at = run(self.alloc, runner, &mut self.env, ask, last);
+                self.calls += 1;
+                put(&mut self.at, at);
+                true
+            }
+            Err(_) => {
+                put(&mut self.at, At::Over(Why::NoMemory));
+                false
+            }
+        }
+    }
+
+    // Begins the reply that names a refusal.
+    fn refuse(&mut self, fault: Fault)
+        requires { self.old.at ≡ At.Refused fault }
+        ensures holds { (V : Voice H) (T : Teller H) (s : Seen) → HoldsBy V T s self.old → HoldsBy V T s self.new }
+        ensures starts { Starts 0 (shows self.old) (shows self.new) }
+    {
+        put_fault(fault, &mut self.ring);
+        put(&mut self.at, At::Refusing);
+    }
+
+    // Takes up the request or the refusal that stands.
+    pub(crate) fn start<R: Runner<B, H>>(&mut self, runner: &mut R, left: &mut Left)
+        requires ready { state_at self.old.at ≡ State.Ready }
+        requires left { 0 < left.old.runs }
+        requires room { R.runs runner.old < 2 ^ 64 - 1 }
+        requires untaken { (ps : Pairs) (input : List ℕ) → HandsToNobody (R.answer runner.old ps input) }
+        ensures holds { (V : Voice H) (T : Teller H) (s : Seen) → TellsBy T (R.answer runner.old) self.old.local self.old.peer
+            → HoldsBy V T s self.old → HoldsBy V T s self.new }
+        ensures any { (V : Voice H) (T : Teller H) (s : Seen) → HoldsBy V T s self.old → RunsBy V T self.old.calls s self.new }
+        ensures starts { Starts (left.old.runs - left.new.runs) (shows self.old) (shows self.new) }
+        ensures left { left.new ≡ record left.old { runs = left.new.runs } }
+        ensures few { left.new.runs ≤ left.old.runs }
+        ensures falls { work left.new self.new.at < work left.old self.old.at }
+        ensures counts { R.runs runner.new + left.new.runs ≡ R.runs runner.old + left.old.runs }
+        ensures steady { R.steady ≡ true → (ps : Pairs) (input : List ℕ) → R.answer runner.new ps input ≡ R.answer runner.old ps input }
+    {
+        match &self.at {
+            At::Refused(fault) => {
+                let fault = *fault;
+                self.refuse(fault);
+            }
+            _ => {
+                if self.answer(runner) {
+                    left.runs -= 1;
+                }
+            }
+        }
+    }
+}

@@ -1,0 +1,312 @@
+// A connection.
+ghost use Rattle.std.specs.Prelude.{◌≡◌, ◌≢◌, ◌<◌, ◌+◌, ◌-◌, ◌^◌, ◌≤◌, ◌↔◌, [], ◌∷◌, ℕ, List, true, false, None, Some, IfOk, IfErr, IsTrue};
+ghost use Rattle.rack_types.specs.Env.{Pairs};
+ghost use Rattle.rack_types.specs.Limits.{stock_limits};
+ghost use Rattle.reply_framing.specs.Hands.{HandsToNobody};
+ghost use Rattle.talk_core.specs.Ended.{Shows, IsEnded, StandsForTalk};
+ghost use Rattle.talk_core.specs.Tail.{Voice};
+ghost use Rattle.talk_core.specs.Teller.{Stacks, Teller, last_phase};
+ghost use Rattle.conn_core.specs.Calls.{Feeds, Turns, Flushes};
+ghost use Rattle.conn_core.specs.Holds.{Holds, HoldsWith};
+ghost use Rattle.conn_core.specs.Plain.{IsPlainEnd};
+ghost use Rattle.conn_core.specs.Runs.{RunsOn};
+ghost use Rattle.conn_core.specs.Shown.{shown, number_of, link_of};
+ghost use Rattle.conn_core.specs.Opened.{opened, IsUnopened, IsFresh};
+
+use crate::held::Held;
+use crate::inside::Inside;
+use crate::place::{At, close, is_saying, state_at};
+use crate::state::{Next, State};
+use circular_buffer::HeapCircularBuffer;
+use hijack_core::Hijack;
+use message_framing::Intake;
+use rack_outside::Link;
+use rack_types::{Body, Bytes, Env, Input, Limits, Local, NoMemory, Peer, Runner};
+use std::alloc::{AllocError, Global};
+use talk_core::{Ended, Life, Why};
+
+// The bytes of the output ring.
+const RING: usize = 65_536;
+// How many lives there is room for.
+const LIVES: usize = 64;
+
+/// A connection, from its opening to its end. It is spent by `finish`.
+///
+/// It is small, and moved by value: its large parts lie in one block that `open` makes.
+///
+/// Of the bytes that came it runs each request once, one behind the other, and sends the replies in their
+/// order (RFC 9112, section 9.3). What it sent is always a part of the text of the talk on those bytes, and
+/// is all of it at an orderly end: that is `Holds`, which its owner carries from `open` to `finish`.
+#[derive(Drop)]
+pub struct Conn<L, B: Body, H> {
+    number: u32,
+    link: L,
+    inside: Box<Inside<B, H>>,
+}
+
+impl<L: Link, B: Body, H: Hijack + Drop> Conn<L, B, H> {
+    /// A connection on this link, of which nothing was read or sent yet.
+    ///
+    /// It reserves all the room that it needs: a head, the output ring of 65,536 bytes, one piece of
+    /// 16,384 bytes, and 64 lives. Where that is refused it answers the ended connection, with its link.
+    ///
+    /// `now` is the moment, in milliseconds.
+    pub fn open(
+        alloc: Global,
+        number: u32,
+        link: L,
+        peer: Peer,
+        local: Local,
+        limits: Limits,
+        phase: u32,
+        now: u64,
+    ) -> Result<Conn<L, B, H>, Ended<L>>
+        requires limits { limits ≡ stock_limits }
+        requires fresh { Shows (L.seen link) peer [] [] false }
+        ensures opened { IfOk result (λ c. (shown c ≡ opened peer local phase) × (number_of c ≡ number) × (link_of c ≡ link)) }
+        ensures holds { IfOk result (λ c. (S : Stacks H) → Holds L.seen (record { says = H.says; ends = H.ends }) S c) }
+        ensures refused { IfErr result (λ e. IsUnopened number link e) }
+        ensures ended { IfErr result (λ e. (S : Stacks H) → IsEnded L L.seen (record { says = H.says; ends = H.ends }) S local e) }
+    {
+        let _now = now;
+        match inside(alloc, peer, local, limits, phase) {
+            Ok(inside) => Ok(Conn {
+                number,
+                link,
+                inside,
+            }),
+            Err(_) => Err(Ended {
+                number,
+                link,
+                lives: Vec::new(alloc),
+                calls: 0,
+                told: 0,
+                closing: None,
+                why: Why::NoMemory,
+            }),
+        }
+    }
+
+    /// Its number, by which its owner knows it.
+    pub fn number(&self) -> u32
+        ensures { result ≡ number_of self.now }
+    {
+        self.number
+    }
+
+    /// Where it is.
+    pub fn state(&self) -> State
+        ensures { result ≡ (shown self.now).state }
+    {
+        state_at(&self.inside.at)
+    }
+
+    /// How many requests were run.
+    pub fn calls(&self) -> u64
+        ensures { result ≡ (shown self.now).calls }
+    {
+        self.inside.calls
+    }
+
+    /// How many bytes were read, up to 2^64 - 1.
+    pub fn taken(&self) -> u64
+        ensures { result ≡ (shown self.now).taken }
+    {
+        self.inside.taken
+    }
+
+    /// Whether bytes of a reply are owed.
+    pub fn wants_write(&self) -> bool
+        ensures bytes { IsTrue result ↔ ((shown self.now).owed ≢ []) }
+        ensures state { IsTrue result ↔ ((shown self.now).state ≡ State.Answering) }
+    {
+        is_saying(&self.inside.at)
+    }
+
+    /// Its link, lent.
+    pub fn link(&self) -> &L
+        ensures { result.now ≡ link_of self.now }
+    {
+        &self.link
+    }
+
+    /// Makes one read, which offers room for 16,384 bytes, and feeds what came to the reader of requests.
+    ///
+    /// It takes memory only for a request's body. `now` is the moment, in milliseconds.
+    pub fn feed(&mut self, now: u64) -> Next
+        requires reading { (shown self.old).state ≡ State.Reading }
+        ensures number { number_of self.new ≡ number_of self.old }
+        ensures feeds { Feeds result (shown self.old) (shown self.new) (L.seen (link_of self.old)) (L.seen (link_of self.new)) }
+        ensures holds { (S : Stacks H) → Holds L.seen (record { says = H.says; ends = H.ends }) S self.old → Holds L.seen (record { says = H.says; ends = H.ends }) S self.new }
+    {
+        let _now = now;
+        let inside: &mut Inside<B, H> = &mut self.inside;
+        inside.feed(&mut self.link)
+    }
+
+    /// Answers requests one behind the other: each is run once, its reply is framed into the ring and
+    /// written, and the bytes that are held are fed before any are read.
+    ///
+    /// It makes at most 10 runs, 160 reads and 160 writes. Behind its tenth run it still writes that run's
+    /// reply; behind its 160th read or write it makes no further one.
+    ///
+    /// Whatever the runner answers, each run belongs to the next request. Where it is steady, the
+    /// connection goes on standing for its talk over the runner's answers.
+    ///
+    /// No answer of the runner hands the connection to a hijacker.
+    pub fn turn<R: Runner<B, H>>(&mut self, runner: &mut R, now: u64) -> Next
+        requires ready { (shown self.old).state ≡ State.Ready }
+        requires room { R.runs runner.old ≤ 2 ^ 64 - 11 }
+        requires untaken { (r : R) (ps : Pairs) (input : List ℕ) → HandsToNobody (R.answer r ps input) }
+        ensures number { number_of self.new ≡ number_of self.old }
+        ensures turns { Turns result (shown self.old) (shown self.new) (L.seen (link_of self.old)) (L.seen (link_of self.new)) }
+        ensures runs { R.runs runner.new + (shown self.old).calls ≡ R.runs runner.old + (shown self.new).calls }
+        ensures steady { R.steady ≡ true → (ps : Pairs) (input : List ℕ) → R.answer runner.new ps input ≡ R.answer runner.old ps input }
+        ensures any { (V : Voice H) (T : Teller H) → HoldsWith L.seen V T self.old → RunsOn L.seen V T (shown self.old).calls self.new }
+        ensures holds { (S : Stacks H) → R.steady ≡ true
+            → ((ps : Pairs) (input : List ℕ) → S (last_phase (shown self.old).lives) ps input ≡ R.answer runner.old ps input)
+            → Holds L.seen (record { says = H.says; ends = H.ends }) S self.old → Holds L.seen (record { says = H.says; ends = H.ends }) S self.new }
+    {
+        let _now = now;
+        let inside: &mut Inside<B, H> = &mut self.inside;
+        inside.turn(&mut self.link, runner)
+    }
+
+    /// Fills the ring from the reply that is under way and writes all of it, at most 16 times. Where the
+    /// link took all of the reply and the connection goes on, the bytes that are held are fed.
+    pub fn flush(&mut self, now: u64) -> Next
+        requires owes { (shown self.old).state ≡ State.Answering }
+        ensures number { number_of self.new ≡ number_of self.old }
+        ensures flushes { Flushes result (shown self.old) (shown self.new) (L.seen (link_of self.old)) (L.seen (link_of self.new)) }
+        ensures holds { (S : Stacks H) → Holds L.seen (record { says = H.says; ends = H.ends }) S self.old → Holds L.seen (record { says = H.says; ends = H.ends }) S self.new }
+    {
+        let _now = now;
+        let inside: &mut Inside<B, H> = &mut self.inside;
+        inside.flush(&mut self.link)
+    }
+
+    /// Hands back what the connection was.
+    pub fn finish(self) -> Ended<L>
+        requires over { (shown self).state ≡ State.Over }
+        ensures why { (shown self).why ≡ Some result.why }
+        ensures given { (result.number ≡ number_of self) × (result.link ≡ link_of self) × (result.calls ≡ (shown self).calls)
+            × (result.lives.items ≡ (shown self).lives) }
+        ensures rest { (result.told ≡ 0) × (result.closing ≡ None) }
+        ensures ended { (S : Stacks H) → Holds L.seen (record { says = H.says; ends = H.ends }) S self → IsEnded L L.seen (record { says = H.says; ends = H.ends }) S (shown self).local result }
+        ensures plainly { (S : Stacks H) → Holds L.seen (record { says = H.says; ends = H.ends }) S self → IsPlainEnd L L.seen (record { says = H.says; ends = H.ends }) S (shown self).local result }
+    {
+        let Conn {
+            number,
+            link,
+            inside,
+        } = self;
+        let Inside {
+            alloc: _,
+            peer: _,
+            local: _,
+            lives,
+            intake: _,
+            held: _,
+            env: _,
+            ring: _,
+            calls,
+            taken: _,
+            at,
+        } = Box::into_inner(inside);
+        match at {
+            At::Over(why) => Ended {
+                number,
+                link,
+                lives,
+                calls,
+                told: 0,
+                closing: None,
+                why,
+            },
+            at => {
+                close(at);
+                unreachable!()
+            }
+        }
+    }
+
+    /// Lets it go as it is, and hands back its link.
+    pub fn leave(self) -> L
+        ensures { result ≡ link_of self }
+    {
+        let Conn {
+            number: _,
+            link,
+            inside,
+        } = self;
+        let_go(Box::into_inner(inside));
+        link
+    }
+
+    /// A law: whatever was done with it, a connection that isn't over stands for its talk.
+    pub fn stands(&self)
+        ensures { (S : Stacks H) → (shown self.now).state ≢ State.Over → Holds L.seen (record { says = H.says; ends = H.ends }) S self.now
+            → StandsForTalk (L.seen (link_of self.now)) (record { says = H.says; ends = H.ends }) S (shown self.now).local (shown self.now).lives (shown self.now).calls None false }
+    {
+        let _state = self.state();
+    }
+}
+
+// A connection's parts at its start, in one block.
+fn inside<B: Body, H: Drop>(
+    alloc: Global,
+    peer: Peer,
+    local: Local,
+    limits: Limits,
+    phase: u32,
+) -> Result<Box<Inside<B, H>>, NoMemory>
+    requires limits { limits ≡ stock_limits }
+    ensures { IfOk result (λ inside. IsFresh peer local phase inside.value) }
+{
+    let intake = Intake::new(alloc, limits)?;
+    let held = Held::new(alloc)?;
+    let ring = HeapCircularBuffer::with_capacity(alloc, RING)?;
+    let mut lives = Vec::with_capacity(alloc, LIVES)?;
+    lives.push(Life { first: 0, phase }).unwrap();
+    let env = Env::new(alloc, Input::new(Bytes::new(Vec::new(alloc))));
+    match Box::new(
+        alloc,
+        Inside {
+            alloc,
+            peer,
+            local,
+            lives,
+            intake,
+            held,
+            env,
+            ring,
+            calls: 0,
+            taken: 0,
+            at: At::Reading,
+        },
+    ) {
+        Ok(inside) => Ok(inside),
+        Err(refused) => {
+            let_go(refused.value);
+            Err(AllocError)
+        }
+    }
+}
+
+// Lets the parts of a connection go that is not opened.
+fn let_go<B: Body, H: Drop>(inside: Inside<B, H>) {
+    let Inside {
+        alloc: _,
+        peer: _,
+        local: _,
+        lives: _,
+        intake: _,
+        held: _,
+        env: _,
+        ring: _,
+        calls: _,
+        taken: _,
+        at,
+    } = inside;
+    close(at);
+}

@@ -1,0 +1,24 @@
+//! One connection, from its first byte to its end: what comes is read and fed to the reader of
+//! requests, each request is run once, and its reply is framed and written, one behind the other.
+#![tactic(auto)]
+
+mod answer;
+mod answers;
+mod conn;
+mod held;
+mod inside;
+mod left;
+mod place;
+mod read;
+mod say;
+mod send;
+mod sending;
+mod state;
+mod steps;
+#[cfg(test)]
+mod tests;
+mod turn;
+
+pub use conn::Conn;
+pub use state::{Next, State};
+pub use talk_core::{Ended, IdleBy, Life, Why};

@@ -1,0 +1,67 @@
+// Where a connection is between its steps.
+ghost use Rattle.std.specs.Prelude.{◌≡◌, ◌↔◌, IsTrue};
+ghost use Rattle.conn_core.specs.Place.{IsSaying, state_at};
+
+use crate::state::State;
+use rack_types::{Body, Fault};
+use reply_framing::Framer;
+use std::mem;
+use talk_core::Why;
+
+// A place. One that owes a reply holds its body, which has to be closed.
+#[derive(Drop)]
+pub(crate) enum At<B: Body, H> {
+    // Nothing stands, is held or is owed.
+    Reading,
+    // A whole request stands in the intake.
+    Asked,
+    // The bytes are refused.
+    Refused(Fault),
+    // A reply is under way: the ring and the rest of the framer are owed.
+    Answering(Framer<B, H>),
+    // A reply is under way, and what is owed of it is in the ring. Whether the connection goes on behind it.
+    Writing(bool),
+    // The reply that names a refusal is in the ring.
+    Refusing,
+    // It ended.
+    Over(Why),
+}
+
+// Closes the reply that is under way, if there is one.
+pub(crate) fn close<B: Body, H: Drop>(at: At<B, H>) {
+    match at {
+        At::Answering(framer) => {
+            let _ = framer.finish();
+        }
+        At::Reading | At::Asked | At::Refused(_) | At::Writing(_) | At::Refusing | At::Over(_) => {}
+    }
+}
+
+// Goes to another place, and closes a reply that was under way.
+pub(crate) fn put<B: Body, H: Drop>(at: &mut At<B, H>, new: At<B, H>)
+    ensures { at.new ≡ new }
+{
+    close(mem::replace(at, new));
+}
+
+// The place as the owner sees it.
+pub(crate) fn state_at<B: Body, H>(at: &At<B, H>) -> State
+    ensures { result ≡ state_at at.now }
+{
+    match at {
+        At::Reading => State::Reading,
+        At::Asked | At::Refused(_) => State::Ready,
+        At::Answering(_) | At::Writing(_) | At::Refusing => State::Answering,
+        At::Over(_) => State::Over,
+    }
+}
+
+// Whether a reply is under way.
+pub(crate) fn is_saying<B: Body, H>(at: &At<B, H>) -> bool
+    ensures { IsTrue result ↔ IsSaying at.now }
+{
+    match at {
+        At::Answering(_) | At::Writing(_) | At::Refusing => true,
+        _ => false,
+    }
+}

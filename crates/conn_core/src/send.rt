@@ -1,0 +1,27 @@
+// One write of a ring.
+ghost use Rattle.std.specs.Prelude.{◌≡◌, ◌<◌, length};
+ghost use Rattle.rack_outside.specs.Link.{IsOneWrite};
+ghost use Rattle.conn_core.specs.Steps.{Sends};
+
+use circular_buffer::HeapCircularBuffer;
+use rack_outside::{Link, LinkWrite};
+
+// Offers all bytes of the ring, and takes away those that the link took. A ring from which all was taken begins at
+// its front again.
+pub(crate) fn send<L: Link>(link: &mut L, ring: &mut HeapCircularBuffer<u8>) -> LinkWrite
+    requires { 0 < length ring.old.items }
+    ensures sends { Sends result ring.old.items ring.new.items (L.seen link.old) (L.seen link.new) }
+    ensures room { ring.new.capacity ≡ ring.old.capacity }
+    ensures keeps { IsOneWrite (L.seen link.old) (L.seen link.new) }
+{
+    let wrote = link.write(ring.make_contiguous());
+    if let LinkWrite::Took(n) = wrote {
+        let left = ring.len() - n;
+        if left == 0 {
+            ring.clear();
+        } else {
+            ring.truncate_front(left);
+        }
+    }
+    wrote
+}

@@ -1,0 +1,31 @@
+// Where a connection is, as its owner sees it, and what it waits for.
+
+/// What a connection can be asked for.
+#[derive(Clone, Copy, Debug, PartialEq, Eq)]
+pub enum State {
+    /// Nothing stands and nothing is owed: it is to be fed.
+    Reading,
+    /// A whole request stands, or a refusal: it is to be turned.
+    Ready,
+    /// A reply is under way: it is to be flushed.
+    Answering,
+    /// A hijacker has it.
+    Hijacked,
+    /// It ended: it is to be finished.
+    Over,
+}
+
+/// What a call leaves a connection waiting for.
+#[derive(Clone, Copy, Debug, PartialEq, Eq)]
+pub enum Next {
+    /// The link had to wait: for bytes of the peer, or until it takes some.
+    Waiting,
+    /// The call got on, and the connection goes on.
+    More,
+    /// A whole request stands, or a refusal, and no reply is under way.
+    Ready,
+    /// The call made its last run, read or write.
+    TurnOver,
+    /// The connection ended.
+    Over,
+}

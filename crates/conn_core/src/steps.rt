@@ -1,0 +1,167 @@
+// The steps of a connection, each over the parts that it changes.
+ghost use Rattle.std.specs.Prelude.{◌≡◌, ◌≢◌, ◌<◌, ◌+◌, ◌-◌, ◌^◌, ℕ, List, true, ◌↔◌, IsTrue, IfOk};
+ghost use Rattle.rack_types.specs.Answer.{told};
+ghost use Rattle.rack_types.specs.Env.{Pairs};
+ghost use Rattle.rack_types.specs.Request.{Parts};
+ghost use Rattle.rack_env.specs.Environment.{environment};
+ghost use Rattle.message_framing.specs.Intake.{Fed, StandsWhole};
+ghost use Rattle.message_framing.specs.Request.{IsRequest};
+ghost use Rattle.reply_framing.specs.Reply.{body_after};
+ghost use Rattle.talk_core.specs.Teller.{ask_of};
+ghost use Rattle.conn_core.specs.Steps.{FeedsHeld, BeginsAt, FillsFrom, FillsTo, IsUntakenAt, HasRequest, CompletesTo};
+
+use crate::held::Held;
+use crate::place::At;
+use circular_buffer::HeapCircularBuffer;
+use message_framing::{Feed, Intake};
+use rack_env::refill;
+use rack_types::{Answer, Body, Env, Local, NoMemory, Peer, Runner};
+use reply_framing::{After, Ask, Filled, Framer};
+use std::alloc::Global;
+use talk_core::Why;
+
+// Feeds the bytes held to the intake, and goes on holding those behind a whole request.
+pub(crate) fn feed_held<B: Body, H>(intake: &mut Intake, held: &mut Held) -> At<B, H>
+    ensures { FeedsHeld intake.old held.old intake.new held.new result }
+{
+    match intake.feed(held.bytes()) {
+        Ok(Feed::More) => {
+            held.clear();
+            At::Reading
+        }
+        Ok(Feed::Whole(n)) => {
+            held.skip(n);
+            At::Asked
+        }
+        Ok(Feed::Refused(fault)) => {
+            held.clear();
+            At::Refused(fault)
+        }
+        Err(_) => At::Over(Why::NoMemory),
+    }
+}
+
+// Makes the environment of the request that stands, which takes its body over, and tells what the framer asks of it.
+pub(crate) fn prepare(
+    intake: &mut Intake,
+    env: &mut Env,
+    peer: &Peer,
+    local: &Local,
+) -> Result<Ask, NoMemory>
+    requires { StandsWhole intake.old }
+    ensures whole { StandsWhole intake.new }
+    ensures asks { (b : List ℕ) (r : Parts) → Fed intake.old b → IsRequest b r
+        → IfOk result (λ ask. (ask ≡ ask_of r) × (env.new ≡ environment r peer.now local.now)) }
+{
+    let input = intake.take_input();
+    let request = intake.request().unwrap();
+    refill(env, request, input, peer, local)?;
+    Ok(Ask {
+        head: request.method() == b"HEAD".as_slice(),
+        version: request.version(),
+        persists: request.persists(),
+    })
+}
+
+// Runs the request, and begins its reply.
+pub(crate) fn run<B: Body, H: Drop, R: Runner<B, H>>(
+    alloc: Global,
+    runner: &mut R,
+    env: &mut Env,
+    ask: Ask,
+    last: bool,
+) -> At<B, H>
+    requires { R.runs runner.old < 2 ^ 64 - 1 }
+    ensures begins { BeginsAt ask env.old.pairs (R.answer runner.old env.old.pairs env.old.input.bytes) last result }
+    ensures counts { R.runs runner.new ≡ R.runs runner.old + 1 }
+    ensures steady { R.steady ≡ true → (ps : Pairs) (input : List ℕ) → R.answer runner.new ps input ≡ R.answer runner.old ps input }
+{
+    match runner.run(env) {
+        Ok(answer) => begin(alloc, ask, env, answer, last),
+        Err(_) => At::Over(Why::NoMemory),
+    }
+}
+
+// Begins the reply to a request, by its answer.
+fn begin<B: Body, H: Drop>(
+    alloc: Global,
+    ask: Ask,
+    env: &Env,
+    answer: Answer<B, H>,
+    last: bool,
+) -> At<B, H>
+    ensures { BeginsAt ask env.now.pairs (told B.content answer) last result }
+{
+    match Framer::start(alloc, ask, env, answer, last) {
+        Ok(framer) => At::Answering(framer),
+        Err(_) => At::Over(Why::NoMemory),
+    }
+}
+
+// Fills the ring from the reply that is under way.
+pub(crate) fn fill<B: Body, H: Drop>(at: At<B, H>, ring: &mut HeapCircularBuffer<u8>) -> At<B, H>
+    requires untaken { IsUntakenAt at }
+    ensures { FillsTo at ring.old result ring.new }
+{
+    match at {
+        At::Answering(framer) => fill_from(framer, ring),
+        at => at,
+    }
+}
+
+// The same of this framer.
+fn fill_from<B: Body, H: Drop>(
+    mut framer: Framer<B, H>,
+    ring: &mut HeapCircularBuffer<u8>,
+) -> At<B, H>
+    requires untaken { body_after framer.rest.rule framer.after ≢ After.Hijack }
+    ensures { FillsFrom framer ring.old result ring.new }
+{
+    match framer.fill(ring) {
+        Ok(filled) => match filled {
+            Filled::Full => At::Answering(framer),
+            Filled::Done => At::Writing(written(framer)),
+            Filled::Broke(_) => At::Writing(written(framer)),
+        },
+        Err(_) => {
+            let _ = framer.finish();
+            At::Over(Why::NoMemory)
+        }
+    }
+}
+
+// Whether the connection goes on behind a framer that has no more to append.
+fn written<B: Body, H: Drop>(framer: Framer<B, H>) -> bool
+    requires untaken { framer.after ≢ After.Hijack }
+    ensures { IsTrue result ↔ (framer.after ≡ After.Keep) }
+{
+    let keeps = match framer.after() {
+        After::Keep => true,
+        After::Close | After::Hijack => false,
+    };
+    match framer.finish() {
+        None => keeps,
+        Some(_) => unreachable!(),
+    }
+}
+
+// Where the link took all of a reply: ends, or goes on behind it with the bytes held.
+pub(crate) fn complete<B: Body, H: Drop>(
+    at: At<B, H>,
+    intake: &mut Intake,
+    held: &mut Held,
+) -> At<B, H>
+    requires { HasRequest at intake.old }
+    ensures { CompletesTo at intake.old held.old result intake.new held.new }
+{
+    match at {
+        At::Writing(keeps) => if keeps {
+            intake.advance();
+            feed_held(intake, held)
+        } else {
+            At::Over(Why::Closed)
+        },
+        At::Refusing => At::Over(Why::Closed),
+        at => at,
+    }
+}

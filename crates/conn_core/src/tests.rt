@@ -1,0 +1,108 @@
+// A connection over a link in memory: each call once.
+ghost use Rattle.std.specs.Prelude.{◌≤◌, ◌-◌, ◌^◌, [], ◌∷◌, None, true, false};
+ghost use Rattle.rack_types.specs.declared.answer.Answer.TheVariants.{Reply};
+ghost use Rattle.rack_types.specs.declared.body.Kind.TheVariants.{Enumerable};
+ghost use Rattle.rack_types.specs.Plain.{plain_content};
+
+use crate::{Conn, Ended, Next, State, Why};
+use hijack_core::Never;
+use rack_outside::MemLink;
+use rack_types::{Answer, Bytes, Env, Headers, Kind, Limits, Local, NoMemory, Peer, Plain, Runner};
+use std::alloc::Global;
+
+// A runner whose application answers a request with its body.
+#[derive(Drop)]
+struct Echo {
+    alloc: Global,
+    runs: u64,
+}
+
+impl Runner<Plain, Never> for Echo {
+    ghost runs = { λ r. r.runs };
+
+    ghost answer = { λ r ps input. Reply 200 [] (plain_content (input ∷ []) false true Enumerable) None };
+
+    ghost steady = { true };
+
+    ghost answered = { λ r. None };
+
+    ghost asked = { λ r. None };
+
+    fn run(&mut self, env: &mut Env) -> Result<Answer<Plain, Never>, NoMemory> {
+        self.runs += 1;
+        let mut pieces = Vec::with_capacity(self.alloc, 1)?;
+        pieces.push(Bytes::new(Vec::from_slice(self.alloc, env.input().all())?))?;
+        Ok(Answer::Reply {
+            status: 200,
+            headers: Headers::new(self.alloc),
+            body: Plain::new(pieces, false, true, Kind::Enumerable),
+            part: None,
+        })
+    }
+}
+
+type MemConn = Conn<MemLink, Plain, Never>;
+
+fn opened(alloc: Global, text: &[u8]) -> Option<MemConn> {
+    let mut link = MemLink::new(alloc, 3, Bytes::new(Vec::new(alloc)));
+    if link.give(text).is_err() {
+        return None;
+    }
+    link.end();
+    let local = Local {
+        name: Peer::new(b"localhost").unwrap(),
+        port: 9292,
+        https: false,
+        hijack: true,
+    };
+    let peer = Peer::new(b"127.0.0.1").unwrap();
+    Conn::open(alloc, 7, link, peer, local, Limits::stock(), 0, 0).ok()
+}
+
+// One call, by the state.
+fn goes_on(conn: &mut MemConn, runner: &mut Echo) -> Option<Next>
+    requires { runner.old.runs ≤ 2 ^ 64 - 11 }
+{
+    match conn.state() {
+        State::Reading => Some(conn.feed(0)),
+        State::Ready => Some(conn.turn(runner, 0)),
+        State::Answering => Some(conn.flush(0)),
+        State::Hijacked | State::Over => None,
+    }
+}
+
+fn ended(conn: MemConn) -> Option<Ended<MemLink>> {
+    match conn.state() {
+        State::Over => Some(conn.finish()),
+        _ => None,
+    }
+}
+
+#[test]
+fn serves_two_requests(rt: HostRuntime) {
+    let alloc = rt.alloc();
+    let asked = b"POST / HTTP/1.1\r\nHost: a\r\nContent-Length: 3\r\n\r\nabcGET / HTTP/1.0\r\n\r\n";
+    match opened(alloc, asked) {
+        Some(mut conn) => {
+            let mut runner = Echo { alloc, runs: 0 };
+            assert_eq!(rt; conn.number(), 7);
+            assert_eq!(rt; goes_on(&mut conn, &mut runner), Some(Next::Ready));
+            runner.runs = 0;
+            assert_eq!(rt; goes_on(&mut conn, &mut runner), Some(Next::Over));
+            assert_eq!(rt; conn.calls(), 2);
+            assert_eq!(rt; conn.taken(), 68);
+            assert!(rt; !conn.wants_write());
+            match ended(conn) {
+                Some(end) => {
+                    assert_eq!(rt; end.why, Why::Closed);
+                    assert_eq!(rt;
+                        end.link.sent(),
+                        b"HTTP/1.1 200 OK\r\ncontent-length: 3\r\n\r\nabcHTTP/1.1 200 OK\r\ncontent-length: 0\r\nconnection: close\r\n\r\n".as_slice()
+                    );
+                }
+                None => assert!(rt; false),
+            }
+        }
+        None => assert!(rt; false),
+    }
+}

@@ -1,0 +1,107 @@
+// Requests are answered, one behind the other.
+ghost use Rattle.std.specs.Prelude.{◌≡◌, ◌<◌, ◌≤◌, ◌+◌, ◌-◌, ◌^◌, ℕ, List, true};
+ghost use Rattle.rack_types.specs.Env.{Pairs};
+ghost use Rattle.reply_framing.specs.Hands.{HandsToNobody};
+ghost use Rattle.talk_core.specs.Tail.{Voice};
+ghost use Rattle.talk_core.specs.Teller.{Teller};
+ghost use Rattle.conn_core.specs.Calls.{Turns};
+ghost use Rattle.conn_core.specs.Holds.{HoldsBy};
+ghost use Rattle.conn_core.specs.Inner.{TellsBy, Steps, StepLeaves};
+ghost use Rattle.conn_core.specs.Place.{state_at as place_as};
+ghost use Rattle.conn_core.specs.Runs.{RunsBy};
+ghost use Rattle.conn_core.specs.Shown.{shows};
+
+use crate::answers::{replied_at, turned};
+use crate::inside::Inside;
+use crate::left::{Left, Said, Step};
+use crate::place::state_at;
+use crate::state::{Next, State};
+use rack_outside::{Link, LinkRead};
+use rack_types::{Body, Runner};
+
+impl<B: Body, H: Drop> Inside<B, H> {
+    // One run, read or write, where one is left.
+    fn step<L: Link, R: Runner<B, H>>(
+        &mut self,
+        link: &mut L,
+        runner: &mut R,
+        left: &mut Left,
+    ) -> Step
+        requires room { R.runs runner.old + left.old.runs < 2 ^ 64 }
+        requires untaken { (ps : Pairs) (input : List ℕ) → HandsToNobody (R.answer runner.old ps input) }
+        ensures holds { (V : Voice H) (T : Teller H) → TellsBy T (R.answer runner.old) self.old.local self.old.peer
+            → HoldsBy V T (L.seen link.old) self.old → HoldsBy V T (L.seen link.new) self.new }
+        ensures any { (V : Voice H) (T : Teller H) → HoldsBy V T (L.seen link.old) self.old → RunsBy V T self.old.calls (L.seen link.new) self.new }
+        ensures steps { Steps (shows self.old) (shows self.new) (L.seen link.old) (L.seen link.new) left.old left.new }
+        ensures leaves { StepLeaves result left.old left.new self.old.at self.new.at (L.seen link.old) (L.seen link.new) }
+        ensures counts { R.runs runner.new + left.new.runs ≡ R.runs runner.old + left.old.runs }
+        ensures steady { R.steady ≡ true → (ps : Pairs) (input : List ℕ) → R.answer runner.new ps input ≡ R.answer runner.old ps input }
+    {
+        match state_at(&self.at) {
+            State::Over | State::Hijacked => Step::Stops,
+            State::Reading => {
+                if left.is_spent() {
+                    return Step::Stops;
+                }
+                left.reads -= 1;
+                match self.read(link) {
+                    LinkRead::NotYet => Step::Waits,
+                    LinkRead::Bytes(n) => {
+                        left.came = left.came.saturating_add(n as u64);
+                        Step::GoesOn
+                    }
+                    LinkRead::End | LinkRead::Failed => Step::GoesOn,
+                }
+            }
+            State::Ready => {
+                if left.is_spent() {
+                    return Step::Stops;
+                }
+                self.start(runner, left);
+                Step::GoesOn
+            }
+            State::Answering => {
+                if left.reads == 0 || left.writes == 0 {
+                    return Step::Stops;
+                }
+                match self.say(link) {
+                    Said::Unwritten => Step::GoesOn,
+                    Said::Wrote => {
+                        left.writes -= 1;
+                        Step::GoesOn
+                    }
+                    Said::Waits => {
+                        left.writes -= 1;
+                        Step::Waits
+                    }
+                }
+            }
+        }
+    }
+
+    // Answers requests one behind the other.
+    pub(crate) fn turn<L: Link, R: Runner<B, H>>(&mut self, link: &mut L, runner: &mut R) -> Next
+        requires ready { place_as self.old.at ≡ State.Ready }
+        requires room { R.runs runner.old ≤ 2 ^ 64 - 11 }
+        requires untaken { (r : R) (ps : Pairs) (input : List ℕ) → HandsToNobody (R.answer r ps input) }
+        ensures holds { R.steady ≡ true → (V : Voice H) (T : Teller H) → TellsBy T (R.answer runner.old) self.old.local self.old.peer
+            → HoldsBy V T (L.seen link.old) self.old → HoldsBy V T (L.seen link.new) self.new }
+        ensures any { (V : Voice H) (T : Teller H) → HoldsBy V T (L.seen link.old) self.old → RunsBy V T self.old.calls (L.seen link.new) self.new }
+        ensures turns { Turns result (shows self.old) (shows self.new) (L.seen link.old) (L.seen link.new) }
+        ensures counts { R.runs runner.new + self.old.calls ≡ R.runs runner.old + self.new.calls }
+        ensures steady { R.steady ≡ true → (ps : Pairs) (input : List ℕ) → R.answer runner.new ps input ≡ R.answer runner.old ps input }
+    {
+        let replied = replied_at(&self.at, self.calls);
+        let mut left = Left::new();
+        self.start(runner, &mut left);
+        loop {
+            match self.step(link, runner, &mut left) {
+                Step::GoesOn => {}
+                Step::Waits | Step::Stops => {
+                    let more = replied_at(&self.at, self.calls) > replied;
+                    return turned(&self.at, &left, more);
+                }
+            }
+        }
+    }
+}

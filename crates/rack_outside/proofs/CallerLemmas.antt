@@ -1,0 +1,2 @@
+-- What crates above may cite: lemmas over the public definitions.
+pub use Rattle.rack_outside.proofs.CountLemmas.{rose_some, rose_within}

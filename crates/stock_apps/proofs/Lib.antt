@@ -1,0 +1,5 @@
+pub mod AppLemmas
+pub mod Computed
+pub mod RuleLemmas
+pub mod WordLemmas
+pub mod WordsComputed

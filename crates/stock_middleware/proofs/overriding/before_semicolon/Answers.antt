@@ -1,0 +1,16 @@
+use Rattle.std.proofs.Common.{length, take, sym, ap, ◌∙◌, arith, rules, take_all}
+use Rattle.std.proofs.lemmas.List.Sums.{position_or_len_is}
+use Rattle.stock_middleware.specs.Override.{is_semicolon}
+use Rattle.stock_middleware.proofs.overriding.before_semicolon.Goals as goal
+
+pub returns-in-Some : goal.returns-in-Some
+returns-in-Some c =
+    let value = c.args.value.now in
+    let found = position_or_len_is is_semicolon value c.in-Some.i 0 (search rules) (search rules) (search rules) in
+    ap (λ n. take n value) (sym found)
+
+pub returns-in-None : goal.returns-in-None
+returns-in-None c =
+    let value = c.args.value.now in
+    let none = position_or_len_is is_semicolon value (length value) 0 (omega arith) (search rules) (search rules) in
+    sym (ap (λ n. take n value) none ∙ take_all (length value) value (omega arith))
