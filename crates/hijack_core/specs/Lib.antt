@@ -1,3 +1,3 @@
-pub mod Mirror
 pub mod Said
 pub mod Silence
+pub mod Stock
