@@ -1,123 +1,24 @@
--- The laws of the stock hijackers, and what the search for the byte that ends finds.
-use Rattle.std.proofs.Common.{◌≡◌, ℕ, zero, suc, ◌+◌, ◌<◌, ◌≤◌, Bool, true, false, not, cond, ◌||◌, List, [], ◌∷◌, ◌++◌, length, take, map, Option, Some, None, slice_index, refl, sym, ap, subst, ◌∙◌, arith, lit≤, append-nil, length-take}
+-- What the search for the byte that ends tells of what upper says.
+use Rattle.std.proofs.Common.{◌≡◌, ℕ, suc, Bool, true, false, not, ◌||◌, List, [], ◌∷◌, map, take, Some, None, slice_index, refl, sym, ap, ◌∙◌, arith}
 use Rattle.std.specs.Char.{to_ascii_uppercase}
-use Rattle.std.specs.List.{list_any, prefix_len, take_while}
-use Rattle.std.proofs.lemmas.Bool.{true≢false, false≢true, not-true, not-false}
-use Rattle.std.proofs.lemmas.List.{map-append, length-map}
-use Rattle.std.proofs.lemmas.List.Folds.{list_any-append, list_any_at}
-use Rattle.std.proofs.lemmas.List.Sums.{prefix_len-le-length, prefix_len_is, take_while-cons}
+use Rattle.std.specs.List.{list_any}
+use Rattle.std.proofs.lemmas.List.Folds.{list_any_at}
+use Rattle.std.proofs.lemmas.List.Sums.{prefix_len_is}
 use Rattle.memchr.specs.Find.{IsFirstByte, is_byte}
 use Rattle.hijack_core.specs.declared.hijack.Said.{Said}
 use Rattle.hijack_core.specs.declared.stock.Stock.{Stock}
-use Rattle.hijack_core.specs.declared.stock.Stock.TheVariants.{Echo, Upper}
-use Rattle.hijack_core.specs.Said.{Starts, GoesOnAs}
+use Rattle.hijack_core.specs.Said.{GoesOnAs}
 use Rattle.hijack_core.specs.Stock.{is_end, before_end, uppered, stock_says, stock_ends}
-
--- a test that fails at the first element and at all others
-module _ {x : ℕ} {xs : List ℕ} where
-  first_fails : list_any is_end (x ∷ xs) ≡ false → is_end x ≡ false
-  first_fails h = by (is_end x) refl
-    where
-      by : (b : Bool) → is_end x ≡ b → is_end x ≡ false
-      by true e = absurd (true≢false (sym (ap (λ b. b || list_any is_end xs) e) ∙ h))
-      by false e = e
-
-  rest_fails : list_any is_end (x ∷ xs) ≡ false → list_any is_end xs ≡ false
-  rest_fails h = sym (ap (λ b. b || list_any is_end xs) (first_fails h)) ∙ h
-
-before-goes : (x : ℕ) (xs : List ℕ) → is_end x ≡ false → before_end (x ∷ xs) ≡ x ∷ before_end xs
-before-goes x xs e = take_while-cons (λ b. not (is_end b)) x xs ∙ ap (λ b. cond (not b) (x ∷ before_end xs) []) e
-
-before-ends : (x : ℕ) (xs : List ℕ) → is_end x ≡ true → before_end (x ∷ xs) ≡ []
-before-ends x xs e = take_while-cons (λ b. not (is_end b)) x xs ∙ ap (λ b. cond (not b) (x ∷ before_end xs) []) e
-
--- where no byte ends, all stand before
-pub before-none : (xs : List ℕ) → list_any is_end xs ≡ false → before_end xs ≡ xs
-before-none [] h = refl
-before-none (x ∷ xs) h = before-goes x xs (first_fails h) ∙ ap (λ ys. x ∷ ys) (before-none xs (rest_fails h))
-
-pub before-joins : (xs ys : List ℕ) → list_any is_end xs ≡ false → before_end (xs ++ ys) ≡ xs ++ before_end ys
-before-joins [] ys h = refl
-before-joins (x ∷ xs) ys h = before-goes x (xs ++ ys) (first_fails h) ∙ ap (λ zs. x ∷ zs) (before-joins xs ys (rest_fails h))
-
-pub before-stops : (xs ys : List ℕ) → list_any is_end xs ≡ true → before_end (xs ++ ys) ≡ before_end xs
-before-stops [] ys h = absurd (false≢true h)
-before-stops (x ∷ xs) ys h = by (is_end x) refl
-  where
-    by : (b : Bool) → is_end x ≡ b → before_end (x ∷ (xs ++ ys)) ≡ before_end (x ∷ xs)
-    by true e = before-ends x (xs ++ ys) e ∙ sym (before-ends x xs e)
-    by false e =
-        let later : list_any is_end xs ≡ true = sym (ap (λ b. b || list_any is_end xs) e) ∙ h in
-        before-goes x (xs ++ ys) e ∙ ap (λ zs. x ∷ zs) (before-stops xs ys later) ∙ sym (before-goes x xs e)
-
-before-short : (xs : List ℕ) → length (before_end xs) ≤ length xs
-before-short xs =
-    let n = prefix_len (λ b. not (is_end b)) xs in
-    omega (arith, length-take n xs, prefix_len-le-length (λ b. not (is_end b)) xs)
-
--- joined: upper
-upper-joined : (xs ys : List ℕ) → list_any is_end xs ≡ false
-    → map to_ascii_uppercase (before_end (xs ++ ys)) ≡ map to_ascii_uppercase (before_end xs) ++ map to_ascii_uppercase (before_end ys)
-upper-joined xs ys h =
-    ap (map to_ascii_uppercase) (before-joins xs ys h) ∙ map-append to_ascii_uppercase xs (before_end ys)
-      ∙ ap (λ zs. map to_ascii_uppercase zs ++ map to_ascii_uppercase (before_end ys)) (sym (before-none xs h))
-
-upper-goes : (xs ys : List ℕ) → list_any is_end xs ≡ false → list_any is_end (xs ++ ys) ≡ list_any is_end ys
-upper-goes xs ys h = list_any-append is_end xs ys ∙ ap (λ b. b || list_any is_end ys) h
-
-upper-stops : (xs ys : List ℕ) → list_any is_end xs ≡ true → uppered (xs ++ ys) ≡ uppered xs
-upper-stops xs ys h =
-    let same : list_any is_end (xs ++ ys) ≡ list_any is_end xs = list_any-append is_end xs ys ∙ ap (λ b. b || list_any is_end ys) h ∙ sym h in
-    let said : List ℕ → Bool → Said = λ bytes ends. record { bytes = map to_ascii_uppercase bytes; go_on = not ends } in
-    ap (λ bytes. said bytes (list_any is_end (xs ++ ys))) (before-stops xs ys h) ∙ ap (said (before_end xs)) same
-
-upper-begins : (xs ys : List ℕ) (b : Bool) → list_any is_end xs ≡ b → Starts (uppered xs).bytes (uppered (xs ++ ys)).bytes
-upper-begins xs ys true h = ([], ap (λ s. s.bytes) (upper-stops xs ys h) ∙ sym (append-nil _))
-upper-begins xs ys false h = ((uppered ys).bytes, upper-joined xs ys h)
-
--- what is said to some bytes begins what is said to these and more
-pub stock-begins : (stock : Stock) (bytes more : List ℕ) → Starts (stock_says stock bytes).bytes (stock_says stock (bytes ++ more)).bytes
-stock-begins Echo bytes more = (more, refl)
-stock-begins Upper bytes more = upper-begins bytes more (list_any is_end bytes) refl
-
--- where it goes on, it is behind these bytes what it was
-pub stock-joins : (stock : Stock) (bytes : List ℕ) → (stock_says stock bytes).go_on ≡ true
-    → GoesOnAs (stock_says stock) (stock_ends stock) bytes (stock_says stock) (stock_ends stock)
-stock-joins Echo bytes goes = record { joined = λ more. refl; ended = λ more. refl }
-stock-joins Upper bytes goes =
-    let none : list_any is_end bytes ≡ false = not-true _ goes in
-    let said : List ℕ → Bool → Said = λ text ends. record { bytes = text; go_on = not ends } in
-    record {
-      joined = λ more.
-          ap (λ text. said text (list_any is_end (bytes ++ more))) (upper-joined bytes more none)
-            ∙ ap (said ((uppered bytes).bytes ++ (uppered more).bytes)) (upper-goes bytes more none);
-      ended = λ more. refl;
-    }
-
--- where it doesn't go on, it says the same to these bytes and more
-pub stock-stops : (stock : Stock) (bytes more : List ℕ) → (stock_says stock bytes).go_on ≡ false → stock_says stock (bytes ++ more) ≡ stock_says stock bytes
-stock-stops Echo bytes more stops = absurd (true≢false stops)
-stock-stops Upper bytes more stops = upper-stops bytes more (not-false _ stops)
-
--- no more bytes are said than came
-pub stock-within : (stock : Stock) (bytes : List ℕ) → length (stock_says stock bytes).bytes ≤ length bytes
-stock-within Echo bytes = omega arith
-stock-within Upper bytes = omega (arith, length-map (before_end bytes) to_ascii_uppercase, before-short bytes)
-
-pub stock-short : (stock : Stock) (piece : List ℕ) → length piece ≤ 16384 → length (stock_says stock piece).bytes ≤ 65536
-stock-short stock piece few = omega (arith, stock-within stock piece, few)
-
-pub stock_end-short : (stock : Stock) (bytes : List ℕ) → length (stock_ends stock bytes) ≤ 65536
-stock_end-short stock bytes = lit≤ tt
+use Rattle.hijack_core.specs.StockLaws.{before-none, stock-joins}
 
 -- a search that finds no byte that ends
 pub search-none : (bytes : List ℕ) → IsFirstByte (is_byte 4) bytes None → list_any is_end bytes ≡ false
 search-none [] h = refl
-search-none (x ∷ xs) h = by (is_end x) refl
+search-none (x ∷ xs) h = by (is_end x) refl (search-none xs (λ k low high passes. h (suc k) (omega arith) (omega arith) passes))
   where
-    by : (b : Bool) → is_end x ≡ b → list_any is_end (x ∷ xs) ≡ false
-    by true e = absurd (h 0 (omega arith) (omega arith) e)
-    by false e = ap (λ b. b || list_any is_end xs) e ∙ search-none xs (λ k low high passes. h (suc k) (omega arith) (omega arith) passes)
+    by : (b : Bool) → is_end x ≡ b → list_any is_end xs ≡ false → list_any is_end (x ∷ xs) ≡ false
+    by true e rest = absurd (h 0 (omega arith) (omega arith) e)
+    by false e rest = ap (λ b. b || list_any is_end xs) e ∙ rest
 
 fails : (b : Bool) → ¬ (b ≡ true) → not b ≡ true
 fails true h = absurd (h refl)
@@ -134,3 +35,26 @@ search-some bytes place h =
       ap (λ n. take n bytes) (prefix_len_is (λ b. not (is_end b)) bytes place 0 (omega (arith, high))
         (λ k l. fails (is_end (slice_index bytes k)) (before k (omega arith) l)) (λ l. ap not h.1)),
     )
+
+-- these bytes in capitals, and on where none ends
+cased : List ℕ → Bool → Said
+cased bytes ends = record { bytes = map to_ascii_uppercase bytes; go_on = not ends }
+
+-- what upper says where the search finds nothing, and where it finds a place
+pub upper-none : (bytes : List ℕ) → IsFirstByte (is_byte 4) bytes None → record { bytes = map to_ascii_uppercase bytes; go_on = true } ≡ uppered bytes
+unfolding cased
+upper-none bytes h =
+    let none = search-none bytes h in
+    ap (λ text. cased text false) (sym (before-none bytes none)) ∙ ap (cased (before_end bytes)) (sym none)
+
+pub upper-some : (bytes : List ℕ) (place : ℕ) → IsFirstByte (is_byte 4) bytes (Some place)
+    → record { bytes = map to_ascii_uppercase (take place bytes); go_on = false } ≡ uppered bytes
+unfolding cased
+upper-some bytes place h =
+    let some = search-some bytes place h in
+    ap (λ text. cased text true) (sym some.1) ∙ ap (cased (before_end bytes)) (sym some.0)
+
+-- whoever says what the stock hijacker says goes on as it does
+pub goes_on-as : (stock : Stock) (piece : List ℕ) (said : Said) → said ≡ stock_says stock piece → said.go_on ≡ true
+    → GoesOnAs (stock_says stock) (stock_ends stock) piece (stock_says stock) (stock_ends stock)
+goes_on-as stock piece said same goes = stock-joins stock piece (sym (ap (λ s. s.go_on) same) ∙ goes)

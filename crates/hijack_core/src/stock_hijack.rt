@@ -1,8 +1,9 @@
 // What the stock hijackers say.
-ghost use Rattle.std.specs.Prelude.{◌≡◌, ◌≤◌, true, false, List, ℕ, [], if◌then◌else◌, IfOk};
+ghost use Rattle.std.specs.Prelude.{◌≡◌, ◌≤◌, true, false, List, ℕ, [], map, if◌then◌else◌, IfOk};
+ghost use Rattle.std.specs.Char.{to_ascii_uppercase};
 ghost use Rattle.hijack_core.specs.declared.stock.Stock.TheVariants.{Echo, Upper};
 ghost use Rattle.hijack_core.specs.Stock.{stock_says, stock_ends, echoed, uppered};
-ghost use Rattle.hijack_core.proofs.StockLemmas.{stock-begins, stock-joins, stock-stops, stock-short, stock_end-short};
+ghost use Rattle.hijack_core.specs.StockLaws.{stock-begins, stock-joins, stock-stops, stock-short, stock_end-short};
 
 use crate::{Hijack, Said, Stock};
 use memchr::memchr;
@@ -50,6 +51,16 @@ impl Stock {
     }
 }
 
+// What this one says to a piece.
+fn answer(alloc: Global, stock: Stock, piece: &[u8]) -> Result<Said, NoMemory>
+    ensures { IfOk result (λ said. said ≡ stock_says stock piece.now) }
+{
+    match stock {
+        Stock::Echo => echo(alloc, piece),
+        Stock::Upper => upper(alloc, piece),
+    }
+}
+
 // Each byte again.
 fn echo(alloc: Global, piece: &[u8]) -> Result<Said, NoMemory>
     ensures { IfOk result (λ said. said ≡ echoed piece.now) }
@@ -64,14 +75,19 @@ fn echo(alloc: Global, piece: &[u8]) -> Result<Said, NoMemory>
 fn upper(alloc: Global, piece: &[u8]) -> Result<Said, NoMemory>
     ensures { IfOk result (λ said. said ≡ uppered piece.now) }
 {
-    let end = memchr(END, piece);
-    let text = match end {
-        Some(place) => &piece[..place],
-        None => piece,
-    };
+    match memchr(END, piece) {
+        Some(place) => capitals(alloc, &piece[..place], false),
+        None => capitals(alloc, piece, true),
+    }
+}
+
+// This text, a to z as A to Z.
+fn capitals(alloc: Global, text: &[u8], go_on: bool) -> Result<Said, NoMemory>
+    ensures { IfOk result (λ said. said ≡ record { bytes = map to_ascii_uppercase text.now; go_on = go_on }) }
+{
     Ok(Said {
         bytes: Bytes::new(text.to_ascii_uppercase(alloc)?),
-        go_on: end.is_none(),
+        go_on,
     })
 }
 
@@ -81,10 +97,7 @@ impl Hijack for StockHijack {
     ghost ends = { stock_ends };
 
     fn on_bytes(&mut self, piece: &[u8]) -> Result<Said, NoMemory> {
-        match self.stock {
-            Stock::Echo => echo(self.alloc, piece),
-            Stock::Upper => upper(self.alloc, piece),
-        }
+        answer(self.alloc, self.stock, piece)
     }
 
     fn on_end(&mut self) -> Result<Said, NoMemory> {
