@@ -29,11 +29,10 @@ pub search-some : (bytes : List ℕ) (place : ℕ) → IsFirstByte (is_byte 4) b
     → (list_any is_end bytes ≡ true) × (before_end bytes ≡ take place bytes)
 search-some bytes place h =
     let high = h.0.high in
-    let before = h.0.before in
-    (
+    let before = h.0.before in (
       list_any_at is_end bytes place 0 high h.1,
       ap (λ n. take n bytes) (prefix_len_is (λ b. not (is_end b)) bytes place 0 (omega (arith, high))
-        (λ k l. fails (is_end (slice_index bytes k)) (before k (omega arith) l)) (λ l. ap not h.1)),
+          (λ k l. fails (is_end (slice_index bytes k)) (before k (omega arith) l)) (λ l. ap not h.1)),
     )
 
 -- these bytes in capitals, and on where none ends

@@ -58,7 +58,7 @@ upper-joined : (xs ys : List ℕ) → list_any is_end xs ≡ false
     → map to_ascii_uppercase (before_end (xs ++ ys)) ≡ map to_ascii_uppercase (before_end xs) ++ map to_ascii_uppercase (before_end ys)
 upper-joined xs ys h =
     ap (map to_ascii_uppercase) (before-joins xs ys h) ∙ map-append to_ascii_uppercase xs (before_end ys)
-      ∙ ap (λ zs. map to_ascii_uppercase zs ++ map to_ascii_uppercase (before_end ys)) (sym (before-none xs h))
+    ∙ ap (λ zs. map to_ascii_uppercase zs ++ map to_ascii_uppercase (before_end ys)) (sym (before-none xs h))
 
 upper-goes : (xs ys : List ℕ) → list_any is_end xs ≡ false → list_any is_end (xs ++ ys) ≡ list_any is_end ys
 upper-goes xs ys h = list_any-append is_end xs ys ∙ ap (λ b. b || list_any is_end ys) h
@@ -88,7 +88,7 @@ stock-joins Upper bytes goes =
     record {
       joined = λ more.
           ap (λ text. said text (list_any is_end (bytes ++ more))) (upper-joined bytes more none)
-            ∙ ap (said ((uppered bytes).bytes ++ (uppered more).bytes)) (upper-goes bytes more none);
+          ∙ ap (said ((uppered bytes).bytes ++ (uppered more).bytes)) (upper-goes bytes more none);
       ended = λ more. refl;
     }
 
@@ -98,7 +98,7 @@ stock-stops Echo bytes more stops = absurd (true≢false stops)
 stock-stops Upper bytes more stops = upper-stops bytes more (not-false _ stops)
 
 -- no more bytes are said than came
-stock-within : (stock : Stock) (bytes : List ℕ) → length (stock_says stock bytes).bytes ≤ length bytes
+pub stock-within : (stock : Stock) (bytes : List ℕ) → length (stock_says stock bytes).bytes ≤ length bytes
 stock-within Echo bytes = le_refl (length bytes)
 stock-within Upper bytes = subst (λ n. n ≤ length bytes) (sym (length-map (before_end bytes) to_ascii_uppercase)) (before-short bytes)
 

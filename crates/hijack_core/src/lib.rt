@@ -4,6 +4,7 @@
 
 mod hijack;
 mod never;
+mod sending;
 mod stock;
 mod stock_hijack;
 #[cfg(test)]

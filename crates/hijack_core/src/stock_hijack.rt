@@ -1,7 +1,8 @@
 // What the stock hijackers say.
-ghost use Rattle.std.specs.Prelude.{◌≡◌, ◌≤◌, true, false, List, ℕ, [], map, if◌then◌else◌, IfOk};
+ghost use Rattle.std.specs.Prelude.{◌≡◌, ◌≤◌, true, false, List, ℕ, [], map, if◌then◌else◌, Ok, IfOk};
 ghost use Rattle.std.specs.Char.{to_ascii_uppercase};
 ghost use Rattle.hijack_core.specs.declared.stock.Stock.TheVariants.{Echo, Upper};
+ghost use Rattle.hijack_core.specs.Silence.{silence};
 ghost use Rattle.hijack_core.specs.Stock.{stock_says, stock_ends, echoed, uppered};
 ghost use Rattle.hijack_core.specs.StockLaws.{stock-begins, stock-joins, stock-stops, stock-short, stock_end-short};
 
@@ -100,7 +101,11 @@ impl Hijack for StockHijack {
         answer(self.alloc, self.stock, piece)
     }
 
-    fn on_end(&mut self) -> Result<Said, NoMemory> {
+    /// Says nothing, and closes. It takes no memory.
+    fn on_end(&mut self) -> Result<Said, NoMemory>
+        ensures ends { IfOk result (λ said. said.bytes ≡ stock_ends self.old []) }
+        ensures closes { result ≡ Ok silence }
+    {
         Ok(Said {
             bytes: Bytes::new(Vec::new(self.alloc)),
             go_on: false,

@@ -1,7 +1,7 @@
 // The stock hijackers, through their trait.
 ghost use Rattle.std.specs.Prelude.{◌<◌};
 
-use crate::{Hijack, Never, Stock, StockHijack};
+use crate::{Hijack, Stock};
 use rack_types::NoMemory;
 use std::alloc::Global;
 use std::test::Fail;
@@ -40,7 +40,11 @@ fn stock_hijackers_are_told_what_comes(rt: HostRuntime) -> Result<(), Fail> {
         (false, "aB\u{4}c\n", "aB\u{4}c\n"),
         (true, "", ""),
         (true, "ab", "AB"),
-        (true, "azAZ09`{@[ \n\0\u{3}\u{5}", "AZAZ09`{@[ \n\0\u{3}\u{5}"),
+        (
+            true,
+            "azAZ09`{@[ \n\0\u{3}\u{5}",
+            "AZAZ09`{@[ \n\0\u{3}\u{5}",
+        ),
         (true, "\u{e1}\u{df}", "\u{e1}\u{df}"),
         (true, "a\u{4}b", "A|"),
         (true, "\u{4}", "|"),
@@ -71,6 +75,7 @@ fn an_empty_piece_is_told(rt: HostRuntime) -> Result<(), Fail> {
 }
 
 const LETTERS: &[u8] = b"abcdefghijklmnopqrstuvwxyz`{@[A\0abcdefghijklmnopqrstuvwxyz`{@[A\0";
+
 const CAPITALS: &[u8] = b"ABCDEFGHIJKLMNOPQRSTUVWXYZ`{@[A\0ABCDEFGHIJKLMNOPQRSTUVWXYZ`{@[A\0";
 
 #[test]
@@ -115,12 +120,4 @@ fn many_bytes_go_through(rt: HostRuntime) -> Result<(), Fail> {
         assert!(rt; echo.as_slice() == letters.as_slice(), "pieces of {size}");
     }
     Ok(())
-}
-
-fn sends<T: Send>() {}
-
-#[test]
-fn hijackers_may_cross_threads() {
-    sends::<Never>();
-    sends::<StockHijack>();
 }

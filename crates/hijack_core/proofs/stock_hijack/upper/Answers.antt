@@ -1,4 +1,4 @@
-use Rattle.std.proofs.Common.{◌≡◌, ◌∙◌}
+use Rattle.std.proofs.Common.{◌∙◌}
 use Rattle.std.proofs.lemmas.Result.{IfOk-weaker}
 use Rattle.hijack_core.proofs.StockLemmas.{upper-none, upper-some}
 use Rattle.hijack_core.proofs.stock_hijack.upper.Goals as goal
