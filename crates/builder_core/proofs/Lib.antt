@@ -1,0 +1,11 @@
+pub mod Trees
+pub mod Finding
+pub mod Folds
+pub mod Spreading
+pub mod Growing
+pub mod Counting
+pub mod Grouping
+pub mod LastEnd
+pub mod Blocks
+pub mod Trying
+pub mod Calls
