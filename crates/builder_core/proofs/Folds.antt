@@ -12,7 +12,7 @@ use Rattle.builder_core.specs.declared.steps.Steps.{Steps}
 use Rattle.builder_core.specs.declared.steps.Line.{Line}
 use Rattle.builder_core.specs.declared.steps.Line.TheVariants.{Use, Run, Map, Cascade, rolls-Use, rolls-Run, rolls-Map, rolls-Cascade}
 use Rattle.builder_core.specs.declared.steps.Line.TheFolds.{fold_out-Steps, fold-roll-Line}
-use Rattle.builder_core.proofs.Counting.{sum-cons}
+use Rattle.builder_core.proofs.Sums.{sum-cons}
 
 pub item-use : {E : Type 0} (w : Ware) → item {E = E} (Use w) ≡ Uses w
 item-use {E} w = ap (item {E = E}) (sym (rolls-Use w)) ∙ fold-roll-Line E (Item E) (Plan E) item_layer plan_layer _

@@ -3,7 +3,7 @@ pub mod Finding
 pub mod Folds
 pub mod Spreading
 pub mod Growing
-pub mod Counting
+pub mod Sums
 pub mod Grouping
 pub mod LastEnd
 pub mod Blocks

@@ -18,12 +18,14 @@ pub(crate) fn call_app<E: Endpoint>(
     ensures same { OnOk result (IsAsGiven env.old env.new) }
 {
     match app.call(env) {
-        Ok(Answer::Reply {
-            status,
-            headers,
-            body,
-            part,
-        }) => Ok(Answer::Reply {
+        Ok(
+            Answer::Reply {
+                status,
+                headers,
+                body,
+                part,
+            },
+        ) => Ok(Answer::Reply {
             status,
             headers,
             body: WareBody::App(body),

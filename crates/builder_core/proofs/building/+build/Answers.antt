@@ -3,7 +3,7 @@ use Rattle.builder_core.specs.Counts.{part, line_size}
 use Rattle.builder_core.specs.Groups.{state}
 use Rattle.builder_core.specs.Spread.{trees, parts, spread}
 use Rattle.builder_core.proofs.Blocks.{group-hung, step-hung, turn, over, stopped, built-by}
-use Rattle.builder_core.proofs.Counting.{sum-snoc}
+use Rattle.builder_core.proofs.Sums.{sum-snoc}
 use Rattle.builder_core.proofs.Folds.{part-map, steps_in-lines}
 use Rattle.builder_core.proofs.Growing.{grown-refl, grown-trans}
 use Rattle.builder_core.proofs.building.+build.Goals as goal

@@ -1,7 +1,7 @@
 use Rattle.std.proofs.Common.{ap, sym, ◌∙◌}
 use Rattle.builder_core.specs.Counts.{part, line_size}
 use Rattle.builder_core.proofs.Folds.{part-run, part-cascade, part-use, part-map, steps_in-lines}
-use Rattle.builder_core.proofs.Counting.{sum-remove}
+use Rattle.builder_core.proofs.Sums.{sum-remove}
 use Rattle.builder_core.proofs.LastEnd.{taken, never-wears, never-at}
 use Rattle.builder_core.proofs.building.take_end.Goals as goal
 

@@ -1,6 +1,6 @@
 use Rattle.std.proofs.Common.{arith, refl}
 use Rattle.builder_core.specs.Counts.{line_height}
-use Rattle.builder_core.proofs.Counting.{greatest_left, greatest_end}
+use Rattle.builder_core.proofs.Sums.{greatest_left, greatest_end}
 use Rattle.builder_core.proofs.Folds.{height-lines}
 use Rattle.builder_core.proofs.counting.+depth.Goals as goal
 

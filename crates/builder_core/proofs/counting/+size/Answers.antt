@@ -1,6 +1,6 @@
 use Rattle.std.proofs.Common.{◌<◌, arith, rules}
 use Rattle.builder_core.specs.Counts.{line_size, steps_in}
-use Rattle.builder_core.proofs.Counting.{sum_left, sum_end}
+use Rattle.builder_core.proofs.Sums.{sum_left, sum_end}
 use Rattle.builder_core.proofs.Folds.{steps_in-lines}
 use Rattle.builder_core.proofs.counting.+size.Goals as goal
 
