@@ -1,4 +1,4 @@
--- The list of nodes of a stack, and the tree that it stands for; of private functions alone.
+-- The list of nodes that a stack is kept as, and the tree that it stands for.
 use Rattle.std.specs.Prelude.{◌≡◌, ℕ, zero, suc, ◌<◌, List, [], ◌∷◌, length, Option, Some, None, slice_get, ⊤, map, option_map}
 use Rattle.builder_core.specs.Tree.{Tree, Calls, Wraps, ByPlace, Tries, Row, NoPlace, Place}
 use Rattle.std.proofs.Common.{Bor}
@@ -31,6 +31,14 @@ tree_within (suc deep) nodes n = tree_of_found (tree_within deep nodes) (slice_g
 -- the tree of node n
 unfoldable pub tree_at : {E : Type 0} → List (Node E) → ℕ → Tree E
 tree_at nodes n = tree_within (suc n) nodes n
+
+-- a stack as it is kept: its nodes, and the number of the one that is called first
+abbrev pub Kept : Type 0 → Type 0
+Kept E = List (Node E) × ℕ
+
+-- the tree that it stands for, which is all that callers need of it
+abbrev pub tree_of : {E : Type 0} → Kept E → Tree E
+tree_of s = tree_at s.0 s.1
 
 -- the children's numbers are below n
 abbrev pub AreBelow : ℕ → List place.Place → Type 0

@@ -4,7 +4,7 @@ ghost use Rattle.builder_core.specs.Build.{build, last_end, Wears};
 ghost use Rattle.builder_core.specs.Builds.{Builds, HasFault};
 ghost use Rattle.builder_core.specs.Counts.{part, steps_in};
 ghost use Rattle.builder_core.specs.Groups.{state, states, IsGroup, AreGroups};
-ghost use Rattle.builder_core.specs.Nodes.{IsFalling, HasBelow, AreBelow, tree_at, tree_of_node};
+ghost use Rattle.builder_core.specs.Nodes.{IsFalling, HasBelow, AreBelow, tree_at, tree_of, tree_of_node};
 ghost use Rattle.builder_core.specs.Plan.{plan};
 ghost use Rattle.builder_core.specs.Spread.{Grown, IsBelow, IsEndNode, end_tree, trees, onto, closed, default_places, parts, end_of, IsLastEnd, spread_over, spread_step};
 ghost use Rattle.builder_core.specs.Tree.{Tree, Row, NoPlace};
@@ -33,7 +33,7 @@ const DEPTH: usize = 32;
 /// TooMany comes exactly where there are more than 256 steps. Else TooDeep comes exactly where something
 /// stands deeper than 32, and else NoRun exactly where the whole, or a block of it, has no application.
 pub fn to_app<E: Drop>(alloc: Global, steps: Steps<E>) -> Result<Stack<E>, BuildFault>
-    ensures builds { IfOk result (Builds (plan steps)) }
+    ensures builds { IfOk result (λ stack. Builds (plan steps) (tree_of stack)) }
     ensures fault { IfErr result (HasFault (plan steps)) }
 {
     if steps_left(&steps, STEPS).is_none() {

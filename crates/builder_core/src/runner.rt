@@ -2,6 +2,7 @@
 ghost use Rattle.std.specs.Prelude.{◌≡◌, true, None};
 ghost use Rattle.std.specs.Arc.{arc_value};
 ghost use Rattle.builder_core.specs.Meaning.{meaning};
+ghost use Rattle.builder_core.specs.Nodes.{tree_of};
 
 use crate::stack::Stack;
 use rack_types::{Answer, Endpoint, Env, NoMemory, Runner};
@@ -40,7 +41,7 @@ impl<E> StackRunner<E> {
 impl<E: Endpoint> Runner<WareBody<E::Body>, E::Take> for StackRunner<E> {
     ghost runs = { λ r. r.runs };
 
-    ghost answer = { λ r. meaning E.answer r.stack };
+    ghost answer = { λ r. meaning E.answer (tree_of r.stack) };
 
     ghost steady = { true };
 

@@ -1,7 +1,7 @@
 // Built stacks.
 ghost use Rattle.std.specs.Prelude.{◌≡◌, ◌<◌, length};
 ghost use Rattle.builder_core.specs.Meaning.{meaning};
-ghost use Rattle.builder_core.specs.Nodes.{IsFalling, tree_at};
+ghost use Rattle.builder_core.specs.Nodes.{IsFalling, tree_of};
 
 use crate::calling::call_node;
 use crate::places::Place;
@@ -32,7 +32,8 @@ pub(crate) enum Node<E> {
 ///   that are passed over are closed. Without endpoints the answer is a 404 with no headers and an empty
 ///   body.
 ///
-/// A contract sees the tree that was built. A call takes memory where a place is entered or none fits,
+/// A contract sees the nodes and the number of the first one that is called; what they stand for, the tree
+/// that was built, is `tree_of`. A call takes memory where a place is entered or none fits,
 /// where a middleware takes some, and where an endpoint does.
 #[derive(Drop)]
 pub struct Stack<E> {
@@ -42,12 +43,13 @@ pub struct Stack<E> {
 }
 
 impl<E> Model for Stack<E> {
-    ghost use Rattle.builder_core.specs.Nodes.{IsStack, tree_at};
-    ghost use Rattle.builder_core.specs.Tree.{Tree};
+    ghost use Rattle.std.specs.Prelude.{List, ℕ};
+    ghost use Rattle.builder_core.specs.declared.stack.Node.{Node};
+    ghost use Rattle.builder_core.specs.Nodes.{IsStack};
 
-    ghost Value = { Tree E };
+    ghost Value = { List (Node E) × ℕ };
 
-    ghost view = { λ s. tree_at s.nodes.items s.top };
+    ghost view = { λ s. (s.nodes.items, s.top) };
 
     ghost invariant = { λ s. IsStack s.nodes.items s.top };
 }
@@ -57,7 +59,7 @@ impl<E> Stack<E> {
     pub(crate) fn new(nodes: Vec<Node<E>>, top: usize) -> Stack<E>
         requires falls { IsFalling nodes.items }
         requires there { top < length nodes.items }
-        ensures { result ≡ tree_at nodes.items top }
+        ensures { result ≡ (nodes.items, top) }
     {
         Stack { nodes, top }
     }
@@ -68,7 +70,7 @@ impl<E: Endpoint> Endpoint for Stack<E> {
 
     type Take = E::Take;
 
-    ghost answer = { λ s. meaning E.answer s };
+    ghost answer = { λ s. meaning E.answer (tree_of s) };
 
     fn call(&self, env: &mut Env) -> Result<Answer<WareBody<E::Body>, E::Take>, NoMemory> {
         call_node(*self.nodes.allocator(), &self.nodes, self.top, env)
