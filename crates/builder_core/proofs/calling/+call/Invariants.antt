@@ -8,4 +8,4 @@ abbrev pub decreases-call_worn : goal.decreases-call_worn
 decreases-call_worn g l = 2 * l.inner + 1
 
 abbrev pub decreases-call_inside : goal.decreases-call_inside
-decreases-call_inside g l = 2 * l.place.node + 1
+decreases-call_inside g l = 2 * l.place.now.node + 1
