@@ -9,3 +9,6 @@ pub mod LastEnd
 pub mod Blocks
 pub mod Trying
 pub mod Calls
+pub mod BuildLemmas
+pub mod CallerLemmas
+mod WorkedRows

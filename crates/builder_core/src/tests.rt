@@ -258,10 +258,10 @@ fn runner_serves_the_largest_stack(rt: HostRuntime) -> Result<(), NoMemory> {
         };
         let mut runner = StackRunner::new(Arc::new(alloc, stack)?);
         let mut env = env_of(alloc, "/x")?;
-        for _ in 0..2 {
-            let said = shown(alloc, runner.run(&mut env)?)?;
-            assert_eq!(rt; said.as_slice(), b"1:/x".as_slice());
-        }
+        let said = shown(alloc, runner.run(&mut env)?)?;
+        assert_eq!(rt; said.as_slice(), b"1:/x".as_slice());
+        let again = shown(alloc, runner.run(&mut env)?)?;
+        assert_eq!(rt; again.as_slice(), b"1:/x".as_slice());
     }
     Ok(())
 }
