@@ -1,6 +1,6 @@
 -- The program's command line, as `clap` is told it. This serves inner contracts alone.
-use Rattle.std.specs.Prelude.{true, Some, codes}
-use Rattle.clap.specs.Words.{App, Rule, Shape, new_app, new_rule, with_rule, with_subcommand}
+use Rattle.std.specs.Prelude.{◌≡◌, List, Option, Some, true, codes, if◌then◌else◌}
+use Rattle.clap.specs.Words.{App, Row, Rule, Shape, Text, first_of, new_app, new_rule, one_of, with_rule, with_subcommand}
 use Rattle.clap.specs.Simple.{on_top}
 use Rattle.clap.specs.declared.builder.action.ArgAction.TheVariants.{SetTrue}
 use Rattle.puma_words.specs.Words as words
@@ -34,3 +34,18 @@ bare_app = on_top (λ s. record s {
 
 abbrev pub puma_app : App
 puma_app = with_subcommand (with_subcommand bare_app once_app.top) check_app.top
+
+-- the subcommand of a command
+abbrev pub verb_of : words.Command → Text
+verb_of (words.once hijack stack) = codes "once"
+verb_of (words.check stack) = codes "check"
+
+-- what is found for a command's own arguments
+abbrev pub Holds : List Row → words.Command → Type 0
+Holds rows (words.once hijack stack) = (first_of (codes "stack") rows ≡ Some stack)
+    × (one_of (codes "no-hijack") rows ≡ Some (if hijack then codes "false" else codes "true"))
+Holds rows (words.check stack) = first_of (codes "stack") rows ≡ Some stack
+
+-- the subcommand that was met, with what was found for it, says the command
+abbrev pub Met : Option (Text × List Row) → words.Command → Type 0
+Met met command = (rows : List Row) × (met ≡ Some (verb_of command, rows)) × Holds rows command

@@ -1,6 +1,7 @@
 // The program's command line, as `clap` is told it.
 ghost use Rattle.std.specs.Prelude.{◌≡◌, IfOk, false};
-ghost use Rattle.clap.specs.Words.{app_of, fields_of, rule_of};
+ghost use Rattle.clap.specs.Words.{app_of, rule_of};
+ghost use Rattle.clap.specs.declared.builder.command.Command.TheViews.{out-Command};
 ghost use Rattle.puma_words.specs.Program.{check_app, once_app, puma_app, stack_rule};
 
 use clap::{Arg, ArgAction, Command};
@@ -23,7 +24,7 @@ pub(crate) fn program<'a>(alloc: Global) -> Result<Command<'a>, NoMemory>
 // `once [--no-hijack] STACK`
 fn once<'a>(alloc: Global) -> Result<Command<'a>, NoMemory>
     ensures app { IfOk result (λ c. app_of c ≡ once_app) }
-    ensures local { IfOk result (λ c. (fields_of c).has_globals ≡ false) }
+    ensures local { IfOk result (λ c. (out-Command c).has_globals ≡ false) }
 {
     let no_hijack = Arg::new(alloc, "no-hijack")
         .long("no-hijack")
@@ -34,7 +35,7 @@ fn once<'a>(alloc: Global) -> Result<Command<'a>, NoMemory>
 // `check STACK`
 fn check<'a>(alloc: Global) -> Result<Command<'a>, NoMemory>
     ensures app { IfOk result (λ c. app_of c ≡ check_app) }
-    ensures local { IfOk result (λ c. (fields_of c).has_globals ≡ false) }
+    ensures local { IfOk result (λ c. (out-Command c).has_globals ≡ false) }
 {
     Command::new(alloc, "check").arg(stack(alloc))
 }
