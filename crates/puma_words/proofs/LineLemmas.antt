@@ -1,10 +1,11 @@
 -- What `clap` makes of the words behind `once` and behind `check`: by what was read before them, what
 -- the rest of them says.
-use Rattle.std.proofs.Common.{◌≡◌, ◌∙◌, ℕ, Bool, true, false, suc, zero, refl, sym, ap, subst, arith, rules, List, [], ◌∷◌, ◌++◌, Option, Some, None, codes}
+use Rattle.std.proofs.Common.{◌≡◌, ◌∙◌, ℕ, Bool, true, false, suc, zero, inl, inr, refl, sym, ap, subst, arith, rules, List, [], ◌∷◌, ◌++◌, Option, Some, None, codes}
 use Rattle.std.specs.Prelude.{⊤, fold, if◌then◌else◌, not, slice_get}
 use Rattle.std.specs.List.{All}
+use Rattle.std.proofs.lemmas.Bool.{cases_Bool}
 use Rattle.std.specs.Str.{IsUtf8, bytes_eq, chars}
-use Rattle.clap.specs.Walk.{Held, Row, Rule, Walk, arg_by_index, arg_by_short, finished, idle, settled, to_positional, used, walked}
+use Rattle.clap.specs.Walk.{Held, value, Row, Rule, Walk, arg_by_index, arg_by_short, finished, idle, settled, to_positional, used, walked}
 use Rattle.clap.specs.Lexer.{long_of, short_of}
 use Rattle.clap.specs.Simple.{Shape, built, inherited, new_rule, new_shape}
 use Rattle.clap.specs.Faults.{check_fault, defaults_fault, flag_word_fault, flags_fault, settle_fault, step_fault, turn_fault, walk_fault}
@@ -16,11 +17,11 @@ use Rattle.clap.specs.declared.error.kind.ErrorKind.TheVariants as kind
 use Rattle.clap.proofs.OnLiterals.{clap_on_literals}
 use Rattle.puma_words.specs.Words.{Command, Text, check_of, ends_options, is_option, names, once, check, once_of, options}
 use Rattle.puma_words.specs.Program.{Holds, puma_app}
-use Rattle.puma_words.proofs.WordForms.{IsName, IsUnknown, Strange, long, short, names-name, names-option, options-name, options-option, word_cases}
+use Rattle.puma_words.proofs.WordForms.{IsName, IsUnknown, Strange, long, short, names-name, names-ends, names-option, options-ends, options-name, options-option, word_cases}
 
 -- ---- the two subcommands as `clap` builds them
 
-pub abbrev flag : Rule
+abbrev pub flag : Rule
 flag = record (new_rule (codes "no-hijack")) {
   long = Some (codes "no-hijack");
   action = Some SetTrue;
@@ -30,7 +31,7 @@ flag = record (new_rule (codes "no-hijack")) {
   parser = Some vp.Bool;
 }
 
-pub abbrev stack : Rule
+abbrev pub stack : Rule
 stack = record (new_rule (codes "stack")) {
   index = Some 1;
   action = Some Set;
@@ -89,7 +90,7 @@ abbrev pub Reads : Shape → Walk → List Text → Option Command → Type 0
 Reads s w words command = Says (rest_fault s w words) (finished s.rules (end_of s w words)) command
 
 -- a word that passes
-step : (s : Shape) (w next : Walk) (word : Text) (words : List Text) (command : Option Command) → turn_fault s [] w word ≡ []
+pub step : (s : Shape) (w next : Walk) (word : Text) (words : List Text) (command : Option Command) → turn_fault s [] w word ≡ []
     → walked s.rules [] w word ≡ next → Reads s next words command → Reads s w (word ∷ words) command
 unfolding walk_fault
 step s w next word words command passes is rest = rw passes (subst (λ v. Reads s v words command) (sym is) rest)
@@ -105,17 +106,122 @@ stop s w word words command refused none = rw (none, refused.2) tt
 
 -- ---- one word
 
-unknown_turn : (s : Shape) (rows : List Row) (pending : Option (Text × List Text)) (n : ℕ) (word : Text) → IsUnknown word
+abbrev Pending : Type 0
+Pending = Option (Text × List Text)
+
+unknown_turn : (s : Shape) (rows : List Row) (pending : Pending) (n : ℕ) (word : Text) → IsUnknown word
     → IsRefused (flag_word_fault s.rules s.args_override_self (long_of word) word (at false rows pending n).held)
     → IsRefused (turn_fault s [] (at false rows pending n) word)
 unknown_turn s rows pending n word u refused = (refused.0, refused.1, rw (u.ends, refused.2) refl)
 
-name_turn : (s : Shape) (rows : List Row) (pending : Option (Text × List Text)) (n : ℕ) (word : Text) → IsName word
+name_turn : (s : Shape) (rows : List Row) (pending : Pending) (n : ℕ) (word : Text) → IsName word
     → turn_fault s [] (at false rows pending n) word ≡ step_fault s n (at false rows pending n).held value
 name_turn s rows pending n word is = rw (is.ends, is.long, is.short) refl
 
-name_walked : (s : Shape) (rows : List Row) (pending : Option (Text × List Text)) (n : ℕ) (word : Text) → IsName word
+name_walked : (s : Shape) (rows : List Row) (pending : Pending) (n : ℕ) (word : Text) → IsName word
     → walked s.rules [] (at false rows pending n) word
     ≡ to_positional s.rules (arg_by_index s.rules n) word (at false rows pending n) (at false rows pending n).held
 unfolding walked
 name_walked s rows pending n word is = rw (is.ends, is.long, is.short) refl
+
+-- an option that nobody has is refused behind `once`
+once_strange : (word : Text) (h : Held) → h.skip ≡ 0 → Strange word → IsRefused (flag_word_fault once_line.rules false (long_of word) word h)
+unfolding flags_fault
+once_strange word h none (long name None is other) = (kind.UnknownArgument, [], rw (is, other refl) refl)
+once_strange word h none (long name (Some v) is other) = elim (cases_Bool (bytes_eq (codes "no-hijack") name)) [
+  | inl same ↦ (kind.TooManyValues, [], rw (is, same) refl)
+  | inr differs ↦ (kind.UnknownArgument, [], rw (is, differs) refl)
+  ]
+once_strange word h none (short x flags c lacks is char) = (kind.UnknownArgument, [], rw (lacks, is, none, char) refl)
+
+-- and behind `check`
+check_strange : (word : Text) (h : Held) → h.skip ≡ 0 → Strange word → IsRefused (flag_word_fault check_line.rules false (long_of word) word h)
+unfolding flags_fault
+check_strange word h none (long name v is other) = (kind.UnknownArgument, [], rw is refl)
+check_strange word h none (short x flags c lacks is char) = (kind.UnknownArgument, [], rw (lacks, is, none, char) refl)
+
+-- ---- `once`: what is none
+
+two_names : (os : List Text) (a b : Text) (ns : List Text) → once_of os (a ∷ b ∷ ns) ≡ None
+two_names [] a b ns = refl
+two_names (o ∷ []) a b ns = refl
+two_names (o ∷ o' ∷ os) a b ns = refl
+
+two_options : (a b : Text) (os ns : List Text) → once_of (a ∷ b ∷ os) ns ≡ None
+two_options a b os [] = refl
+two_options a b os (n ∷ []) = refl
+two_options a b os (n ∷ n' ∷ ns) = refl
+
+other_option : (o : Text) (os ns : List Text) → bytes_eq (codes "--no-hijack") o ≡ false → once_of (o ∷ os) ns ≡ None
+other_option o [] [] differs = refl
+other_option o [] (n ∷ []) differs = rw differs refl
+other_option o [] (n ∷ n' ∷ ns) differs = refl
+other_option o (o' ∷ os) ns differs = two_options o o' os ns
+
+-- ---- `once`: the lines, the furthest read first
+
+abbrev no_hijack : Text
+no_hijack = codes "--no-hijack"
+
+abbrev given : Text → Pending
+given v = Some (codes "stack", v ∷ [])
+
+-- `--no-hijack`; the name and then `--no-hijack`
+abbrev flag_row : List Row
+flag_row = used flag [] []
+
+abbrev both_rows : Text → List Row
+both_rows v = used flag [] (used stack (v ∷ []) [])
+
+-- `--no-hijack` and then the name
+abbrev flag_name : Bool → Text → Walk
+flag_name trailing v = at trailing flag_row (given v) 2
+
+abbrev name_flag : Bool → Text → Walk
+name_flag trailing v = at trailing (both_rows v) None 2
+
+flag_name-trailing : (v : Text) (words : List Text) → Reads once_line (flag_name true v) words (once_of (no_hijack ∷ []) (v ∷ words))
+unfolding clap_on_literals
+flag_name-trailing v [] = (refl, refl)
+flag_name-trailing v (w ∷ words) = stop once_line (flag_name true v) w words None (kind.UnknownArgument, [], refl) refl
+
+name_flag-trailing : (v : Text) (words : List Text) → Reads once_line (name_flag true v) words (once_of (no_hijack ∷ []) (v ∷ words))
+unfolding clap_on_literals
+name_flag-trailing v [] = (refl, refl)
+name_flag-trailing v (w ∷ words) = stop once_line (name_flag true v) w words None (kind.UnknownArgument, [], refl) refl
+
+-- the words are text
+abbrev pub AllText : List Text → Type 0
+AllText = All IsUtf8
+
+-- everything was read, and more words come: `--` may, and no other
+abbrev EndsAt : Walk → Text → List Text → Type 0
+EndsAt w v words = Reads once_line w words (once_of (no_hijack ∷ options words) (v ∷ names words))
+
+flag_name-read : (v : Text) (words : List Text) → AllText words → EndsAt (flag_name false v) v words
+unfolding clap_on_literals
+flag_name-read v [] all = (refl, refl)
+flag_name-read v (w ∷ words) all =
+    let here : Walk = flag_name false v in
+    word_cases (λ word. EndsAt here v (word ∷ words)) (
+      step once_line here (flag_name true v) (codes "--") words _ refl refl (flag_name-trailing v words),
+      stop once_line here no_hijack words _ (kind.ArgumentConflict, [], refl) (ap (λ os. once_of (no_hijack ∷ os) (v ∷ names (no_hijack ∷ words))) (options-option no_hijack words refl refl) ∙ two_options no_hijack no_hijack (options words) (v ∷ names (no_hijack ∷ words))),
+      (λ word u. stop once_line here word words _ (unknown_turn once_line flag_row (given v) 2 word u (once_strange word here.held refl u.strange))
+          (ap (λ os. once_of (no_hijack ∷ os) (v ∷ names (word ∷ words))) (options-option word words u.ends u.option) ∙ two_options no_hijack word (options words) (v ∷ names (word ∷ words)))),
+      (λ word is. stop once_line here word words _ (kind.UnknownArgument, [], name_turn once_line flag_row (given v) 2 word is)
+          (ap (λ ns. once_of (no_hijack ∷ options (word ∷ words)) (v ∷ ns)) (names-name word words is.ends is.option) ∙ two_names (no_hijack ∷ options (word ∷ words)) v word (names words))),
+    ) w all.0
+
+name_flag-read : (v : Text) (words : List Text) → AllText words → EndsAt (name_flag false v) v words
+unfolding clap_on_literals
+name_flag-read v [] all = (refl, refl)
+name_flag-read v (w ∷ words) all =
+    let here : Walk = name_flag false v in
+    word_cases (λ word. EndsAt here v (word ∷ words)) (
+      step once_line here (name_flag true v) (codes "--") words _ refl refl (name_flag-trailing v words),
+      stop once_line here no_hijack words _ (kind.ArgumentConflict, [], refl) (ap (λ os. once_of (no_hijack ∷ os) (v ∷ names (no_hijack ∷ words))) (options-option no_hijack words refl refl) ∙ two_options no_hijack no_hijack (options words) (v ∷ names (no_hijack ∷ words))),
+      (λ word u. stop once_line here word words _ (unknown_turn once_line (both_rows v) None 2 word u (once_strange word here.held refl u.strange))
+          (ap (λ os. once_of (no_hijack ∷ os) (v ∷ names (word ∷ words))) (options-option word words u.ends u.option) ∙ two_options no_hijack word (options words) (v ∷ names (word ∷ words)))),
+      (λ word is. stop once_line here word words _ (kind.UnknownArgument, [], name_turn once_line (both_rows v) None 2 word is)
+          (ap (λ ns. once_of (no_hijack ∷ options (word ∷ words)) (v ∷ ns)) (names-name word words is.ends is.option) ∙ two_names (no_hijack ∷ options (word ∷ words)) v word (names words))),
+    ) w all.0

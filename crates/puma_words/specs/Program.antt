@@ -49,3 +49,7 @@ Holds rows (words.check stack) = first_of (codes "stack") rows ≡ Some stack
 -- the subcommand that was met, with what was found for it, says the command
 abbrev pub Met : Option (Text × List Row) → words.Command → Type 0
 Met met command = (rows : List Row) × (met ≡ Some (verb_of command, rows)) × Holds rows command
+
+-- the answer is the command that this says, where it says one
+abbrev pub Follows : Option (Text × List Row) → Option words.Command → Type 0
+Follows met answer = (command : words.Command) → Met met command → answer ≡ Some command

@@ -1,8 +1,8 @@
 // The command that the words say.
-ghost use Rattle.std.specs.Prelude.{◌≡◌, IfOk, Some, map, option_map, string_bytes};
-ghost use Rattle.puma_words.specs.Words as words;
+ghost use Rattle.std.specs.Prelude.{◌≡◌, IfOk, map, option_map, string_bytes};
+ghost use Rattle.puma_words.specs.Words.{command_of};
 ghost use Rattle.clap.specs.Words.{subcommand_rows_of};
-ghost use Rattle.puma_words.specs.Program.{said, Met};
+ghost use Rattle.puma_words.specs.Program.{said, Follows};
 
 use crate::program::program;
 use clap::ArgMatches;
@@ -36,7 +36,7 @@ pub enum Command<'a> {
 ///
 /// It takes memory, and gives back all but what the answer borrows from the words.
 pub fn command_of<'a>(alloc: Global, words: &'a [String]) -> Result<Option<Command<'a>>, NoMemory>
-    ensures { IfOk result (λ r. option_map said r ≡ words.command_of (map string_bytes words.entry.now)) }
+    ensures { IfOk result (λ r. option_map said r ≡ command_of (map string_bytes words.entry.now)) }
 {
     match program(alloc)?.try_get_matches_from(words) {
         Ok(matches) => Ok(command_in(&matches)),
@@ -47,7 +47,7 @@ pub fn command_of<'a>(alloc: Global, words: &'a [String]) -> Result<Option<Comma
 
 // The command of a command line that was read.
 fn command_in<'a>(matches: &ArgMatches<'a>) -> Option<Command<'a>>
-    ensures { (command : words.Command) → Met (subcommand_rows_of matches.now) command → option_map said result ≡ Some command }
+    ensures { Follows (subcommand_rows_of matches.now) (option_map said result) }
 {
     let (verb, rest) = matches.subcommand()?;
     let stack = rest.get_str("stack")?;
