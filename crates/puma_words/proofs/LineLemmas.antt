@@ -1,8 +1,7 @@
 -- What `clap` makes of the words behind `once` and behind `check`: by what was read before them, what
 -- the rest of them says.
-use Rattle.std.proofs.Common.{◌≡◌, ◌∙◌, ℕ, Bool, true, false, suc, zero, inl, inr, refl, sym, ap, subst, arith, rules, List, [], ◌∷◌, ◌++◌, Option, Some, None, codes}
+use Rattle.std.proofs.Common.{◌≡◌, ◌∙◌, ℕ, Bool, true, false, suc, zero, inl, inr, refl, sym, ap, subst, subst₂, arith, rules, List, [], ◌∷◌, ◌++◌, Option, Some, None, codes}
 use Rattle.std.specs.Prelude.{⊤, fold, if◌then◌else◌, not, slice_get}
-use Rattle.std.specs.List.{All}
 use Rattle.std.proofs.lemmas.Bool.{cases_Bool}
 use Rattle.std.specs.Str.{IsUtf8, bytes_eq, chars}
 use Rattle.clap.specs.Walk.{Held, value, Row, Rule, Walk, arg_by_index, arg_by_short, finished, idle, settled, to_positional, used, walked}
@@ -192,7 +191,8 @@ name_flag-trailing v (w ∷ words) = stop once_line (name_flag true v) w words N
 
 -- the words are text
 abbrev pub AllText : List Text → Type 0
-AllText = All IsUtf8
+AllText [] = ⊤
+AllText (w ∷ words) = IsUtf8 w × AllText words
 
 -- everything was read, and more words come: `--` may, and no other
 abbrev EndsAt : Walk → Text → List Text → Type 0
@@ -224,4 +224,90 @@ name_flag-read v (w ∷ words) all =
           (ap (λ os. once_of (no_hijack ∷ os) (v ∷ names (word ∷ words))) (options-option word words u.ends u.option) ∙ two_options no_hijack word (options words) (v ∷ names (word ∷ words)))),
       (λ word is. stop once_line here word words _ (kind.UnknownArgument, [], name_turn once_line (both_rows v) None 2 word is)
           (ap (λ ns. once_of (no_hijack ∷ options (word ∷ words)) (v ∷ ns)) (names-name word words is.ends is.option) ∙ two_names (no_hijack ∷ options (word ∷ words)) v word (names words))),
+    ) w all.0
+
+-- the name alone was read
+abbrev name_only : Bool → Text → Walk
+name_only trailing v = at trailing [] (given v) 2
+
+name_only-trailing : (v : Text) (words : List Text) → Reads once_line (name_only true v) words (once_of [] (v ∷ words))
+unfolding clap_on_literals
+name_only-trailing v [] = (refl, refl)
+name_only-trailing v (w ∷ words) = stop once_line (name_only true v) w words None (kind.UnknownArgument, [], refl) refl
+
+abbrev NameEndsAt : Text → List Text → Type 0
+NameEndsAt v words = Reads once_line (name_only false v) words (once_of (options words) (v ∷ names words))
+
+name_only-read : (v : Text) (words : List Text) → AllText words → NameEndsAt v words
+unfolding clap_on_literals
+name_only-read v [] all = (refl, refl)
+name_only-read v (w ∷ words) all =
+    let here : Walk = name_only false v in
+    word_cases (λ word. NameEndsAt v (word ∷ words)) (
+      step once_line here (name_only true v) (codes "--") words _ refl refl (name_only-trailing v words),
+      step once_line here (name_flag false v) no_hijack words _ refl refl
+          (subst₂ (λ os ns. Reads once_line (name_flag false v) words (once_of os (v ∷ ns))) (sym (options-option no_hijack words refl refl)) (sym (names-option no_hijack words refl refl))
+          (name_flag-read v words all.1)),
+      (λ word u. stop once_line here word words _ (unknown_turn once_line [] (given v) 2 word u (once_strange word here.held refl u.strange))
+          (ap (λ os. once_of os (v ∷ names (word ∷ words))) (options-option word words u.ends u.option) ∙ other_option word (options words) (v ∷ names (word ∷ words)) u.other)),
+      (λ word is. stop once_line here word words _ (kind.UnknownArgument, [], name_turn once_line [] (given v) 2 word is)
+          (ap (λ ns. once_of (options (word ∷ words)) (v ∷ ns)) (names-name word words is.ends is.option) ∙ two_names (options (word ∷ words)) v word (names words))),
+    ) w all.0
+
+-- `--no-hijack` alone was read
+abbrev flag_only : Bool → Walk
+flag_only trailing = at trailing flag_row None 1
+
+flag_only-trailing : (words : List Text) → Reads once_line (flag_only true) words (once_of (no_hijack ∷ []) words)
+unfolding clap_on_literals
+flag_only-trailing [] = tt
+flag_only-trailing (w ∷ words) = step once_line (flag_only true) (flag_name true w) w words _ refl refl (flag_name-trailing w words)
+
+abbrev FlagEndsAt : List Text → Type 0
+FlagEndsAt words = Reads once_line (flag_only false) words (once_of (no_hijack ∷ options words) (names words))
+
+flag_only-read : (words : List Text) → AllText words → FlagEndsAt words
+unfolding clap_on_literals
+flag_only-read [] all = tt
+flag_only-read (w ∷ words) all =
+    let here : Walk = flag_only false in
+    word_cases (λ word. FlagEndsAt (word ∷ words)) (
+      step once_line here (flag_only true) (codes "--") words _ refl refl (flag_only-trailing words),
+      stop once_line here no_hijack words _ (kind.ArgumentConflict, [], refl)
+          (ap (λ os. once_of (no_hijack ∷ os) (names (no_hijack ∷ words))) (options-option no_hijack words refl refl) ∙ two_options no_hijack no_hijack (options words) (names (no_hijack ∷ words))),
+      (λ word u. stop once_line here word words _ (unknown_turn once_line flag_row None 1 word u (once_strange word here.held refl u.strange))
+          (ap (λ os. once_of (no_hijack ∷ os) (names (word ∷ words))) (options-option word words u.ends u.option) ∙ two_options no_hijack word (options words) (names (word ∷ words)))),
+      (λ word is. step once_line here (flag_name false word) word words _ (name_turn once_line flag_row None 1 word is) (name_walked once_line flag_row None 1 word is)
+          (subst₂ (λ os ns. Reads once_line (flag_name false word) words (once_of (no_hijack ∷ os) ns)) (sym (options-name word words is.ends is.option)) (sym (names-name word words is.ends is.option))
+          (flag_name-read word words all.1))),
+    ) w all.0
+
+-- nothing was read
+abbrev nothing : Bool → Walk
+nothing trailing = at trailing [] None 1
+
+once_trailing : (words : List Text) → Reads once_line (nothing true) words (once_of [] words)
+unfolding clap_on_literals
+once_trailing [] = tt
+once_trailing (w ∷ words) = step once_line (nothing true) (name_only true w) w words _ refl refl (name_only-trailing w words)
+
+abbrev OnceAt : List Text → Type 0
+OnceAt words = Reads once_line (nothing false) words (once_of (options words) (names words))
+
+-- the words behind `once`
+pub once_read : (words : List Text) → AllText words → OnceAt words
+unfolding clap_on_literals
+once_read [] all = tt
+once_read (w ∷ words) all =
+    let here : Walk = nothing false in
+    word_cases (λ word. OnceAt (word ∷ words)) (
+      step once_line here (nothing true) (codes "--") words _ refl refl (once_trailing words),
+      step once_line here (flag_only false) no_hijack words _ refl refl
+          (subst₂ (λ os ns. Reads once_line (flag_only false) words (once_of os ns)) (sym (options-option no_hijack words refl refl)) (sym (names-option no_hijack words refl refl))
+          (flag_only-read words all.1)),
+      (λ word u. stop once_line here word words _ (unknown_turn once_line [] None 1 word u (once_strange word here.held refl u.strange))
+          (ap (λ os. once_of os (names (word ∷ words))) (options-option word words u.ends u.option) ∙ other_option word (options words) (names (word ∷ words)) u.other)),
+      (λ word is. step once_line here (name_only false word) word words _ (name_turn once_line [] None 1 word is) (name_walked once_line [] None 1 word is)
+          (subst₂ (λ os ns. Reads once_line (name_only false word) words (once_of os ns)) (sym (options-name word words is.ends is.option)) (sym (names-name word words is.ends is.option))
+          (name_only-read word words all.1))),
     ) w all.0
