@@ -311,3 +311,55 @@ once_read (w ∷ words) all =
           (subst₂ (λ os ns. Reads once_line (name_only false word) words (once_of os ns)) (sym (options-name word words is.ends is.option)) (sym (names-name word words is.ends is.option))
           (name_only-read word words all.1))),
     ) w all.0
+
+-- ---- `check`
+
+check_two_names : (os : List Text) (a b : Text) (ns : List Text) → check_of os (a ∷ b ∷ ns) ≡ None
+check_two_names [] a b ns = refl
+check_two_names (o ∷ os) a b ns = refl
+
+checked-trailing : (v : Text) (words : List Text) → Reads check_line (name_only true v) words (check_of [] (v ∷ words))
+unfolding clap_on_literals
+checked-trailing v [] = refl
+checked-trailing v (w ∷ words) = stop check_line (name_only true v) w words None (kind.UnknownArgument, [], refl) refl
+
+abbrev CheckEndsAt : Text → List Text → Type 0
+CheckEndsAt v words = Reads check_line (name_only false v) words (check_of (options words) (v ∷ names words))
+
+checked-read : (v : Text) (words : List Text) → AllText words → CheckEndsAt v words
+unfolding clap_on_literals
+checked-read v [] all = refl
+checked-read v (w ∷ words) all =
+    let here : Walk = name_only false v in
+    word_cases (λ word. CheckEndsAt v (word ∷ words)) (
+      step check_line here (name_only true v) (codes "--") words _ refl refl (checked-trailing v words),
+      stop check_line here no_hijack words _ (kind.UnknownArgument, [], refl) (ap (λ os. check_of os (v ∷ names (no_hijack ∷ words))) (options-option no_hijack words refl refl)),
+      (λ word u. stop check_line here word words _ (unknown_turn check_line [] (given v) 2 word u (check_strange word here.held refl u.strange))
+          (ap (λ os. check_of os (v ∷ names (word ∷ words))) (options-option word words u.ends u.option))),
+      (λ word is. stop check_line here word words _ (kind.UnknownArgument, [], name_turn check_line [] (given v) 2 word is)
+          (ap (λ ns. check_of (options (word ∷ words)) (v ∷ ns)) (names-name word words is.ends is.option) ∙ check_two_names (options (word ∷ words)) v word (names words))),
+    ) w all.0
+
+check_trailing : (words : List Text) → Reads check_line (nothing true) words (check_of [] words)
+unfolding clap_on_literals
+check_trailing [] = tt
+check_trailing (w ∷ words) = step check_line (nothing true) (name_only true w) w words _ refl refl (checked-trailing w words)
+
+abbrev CheckAt : List Text → Type 0
+CheckAt words = Reads check_line (nothing false) words (check_of (options words) (names words))
+
+-- the words behind `check`
+pub check_read : (words : List Text) → AllText words → CheckAt words
+unfolding clap_on_literals
+check_read [] all = tt
+check_read (w ∷ words) all =
+    let here : Walk = nothing false in
+    word_cases (λ word. CheckAt (word ∷ words)) (
+      step check_line here (nothing true) (codes "--") words _ refl refl (check_trailing words),
+      stop check_line here no_hijack words _ (kind.UnknownArgument, [], refl) (ap (λ os. check_of os (names (no_hijack ∷ words))) (options-option no_hijack words refl refl)),
+      (λ word u. stop check_line here word words _ (unknown_turn check_line [] None 1 word u (check_strange word here.held refl u.strange))
+          (ap (λ os. check_of os (names (word ∷ words))) (options-option word words u.ends u.option))),
+      (λ word is. step check_line here (name_only false word) word words _ (name_turn check_line [] None 1 word is) (name_walked check_line [] None 1 word is)
+          (subst₂ (λ os ns. Reads check_line (name_only false word) words (check_of os ns)) (sym (options-name word words is.ends is.option)) (sym (names-name word words is.ends is.option))
+          (checked-read word words all.1))),
+    ) w all.0
