@@ -95,7 +95,7 @@ unfolding walk_fault
 step s w next word words command passes is rest = rw passes (subst (λ v. Reads s v words command) (sym is) rest)
 
 -- a word that is refused
-abbrev IsRefused : Kinds → Type 0
+abbrev pub IsRefused : Kinds → Type 0
 IsRefused kinds = (k : ErrorKind) × (ks : Kinds) × (kinds ≡ k ∷ ks)
 
 stop : (s : Shape) (w : Walk) (word : Text) (words : List Text) (command : Option Command) → IsRefused (turn_fault s [] w word) → command ≡ None

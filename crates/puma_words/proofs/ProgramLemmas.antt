@@ -1,23 +1,23 @@
 -- What `clap` makes of all the words.
-use Rattle.std.proofs.Common.{◌≡◌, ◌∙◌, ℕ, Bool, true, false, inl, inr, refl, sym, ap, subst, List, [], ◌∷◌, ◌++◌, Option, Some, None, codes, map}
-use Rattle.std.specs.Prelude.{⊤, fold, string_bytes, String}
+use Rattle.std.proofs.Common.{◌≡◌, ◌∙◌, ℕ, Bool, true, false, inl, inr, refl, sym, ap, subst, subst₂, List, [], ◌∷◌, ◌++◌, Option, Some, None, codes, map}
+use Rattle.std.specs.Prelude.{⊤, fold, if◌then◌else◌, is_some, string_bytes, String}
 use Rattle.std.specs.Str.{IsUtf8, bytes_eq, chars}
 use Rattle.std.proofs.lemmas.Bool.{cases_Bool}
 use Rattle.std.proofs.lemmas.Str.{IsUtf8-string_bytes}
-use Rattle.clap.specs.Walk.{Row, Rule, Walk, finished, nothing_held, walk_from, walked}
+use Rattle.clap.specs.Walk.{Names, Row, Walk, finished, nothing_held, settled, walk_from, walked}
 use Rattle.clap.specs.Simple.{Shape, built, entered, inherited, is_simple, names_of, new_shape, subcommand_of}
-use Rattle.clap.specs.Faults.{fault_of, is_simple_and_free, walk_fault}
+use Rattle.clap.specs.Faults.{check_fault, defaults_fault, entered_fault, fault_of, flags_fault, is_simple_and_free, settle_fault, turn_fault, walk_fault}
 use Rattle.clap.specs.Kinds.{Kinds, or_else}
 use Rattle.clap.specs.declared.error.kind.ErrorKind.{ErrorKind}
 use Rattle.clap.specs.declared.error.kind.ErrorKind.TheVariants as kind
 use Rattle.clap.proofs.OnLiterals.{clap_on_literals}
 use Rattle.clap.proofs.WalkLemmas.{walk_stopped}
-use Rattle.puma_words.specs.Words.{Command, Text, command_of}
-use Rattle.puma_words.specs.Program.{Holds, Met, puma_app}
-use Rattle.puma_words.proofs.WordForms.{IsName, IsUnknown, same_bytes, word_cases}
-use Rattle.puma_words.proofs.LineLemmas.{AllText, Reads, Says, check_line, check_read, once_line, once_read, rest_fault}
+use Rattle.puma_words.specs.Words.{Command, Text, check_of, command_of, names, once, once_of, options}
+use Rattle.puma_words.specs.Program.{Met, puma_app, verb_of}
+use Rattle.puma_words.proofs.WordForms.{IsUnknown, Strange, long, short, same_bytes, word_cases}
+use Rattle.puma_words.proofs.LineLemmas.{AllText, IsRefused, Says, check_read, once_read}
 
--- the words are refused exactty where they say no command, and else the subcommand says it
+-- the words are refused exactly where they say no command, and else the subcommand says it
 abbrev pub Agrees : Kinds → Option (Text × List Row) → Option Command → Type 0
 Agrees [] met (Some command) = Met met command
 Agrees [] met None = ⊥
@@ -31,8 +31,8 @@ AgreesOn words = Agrees (fault_of puma_app words) (subcommand_of puma_app words)
 abbrev top : Shape
 top = (built puma_app).top
 
-is_once : (built puma_app).subs ≡ once_line ∷ check_line ∷ []
-is_once = refl
+abbrev verbs : Names
+verbs = names_of (built puma_app)
 
 pub simple : is_simple puma_app ≡ true
 simple = refl
@@ -40,6 +40,130 @@ simple = refl
 pub free : is_simple_and_free puma_app ≡ true
 free = refl
 
-no_words : AgreesOn []
+-- ---- behind the verb
+
+-- the verb was met, and these words behind it
+abbrev stopped_at : Text → List Text → Walk
+stopped_at verb seen = record (walk_from nothing_held) { stopped = Some (verb, seen) }
+
+no_fault : (verb : Text) (seen words : List Text) → walk_fault top verbs (stopped_at verb seen) words ≡ []
+unfolding walked walk_fault
+no_fault verb seen [] = refl
+no_fault verb seen (w ∷ words) = no_fault verb (seen ++ w ∷ []) words
+
+folded : (verb : Text) (words : List Text) → fold (walked top.rules verbs) (stopped_at verb []) words ≡ stopped_at verb words
+folded verb words = sym (walk_stopped top.rules verbs (walk_from nothing_held) verb [] words)
+
+-- by what the walk met and where it ended
+abbrev whole : Kinds → Walk → Kinds
+whole met end = or_else met (or_else (entered_fault (built puma_app) end.stopped)
+    (or_else (settle_fault top.rules top.args_override_self end.held)
+    (or_else (defaults_fault (settled top.rules end.held).rows top.rules)
+    (check_fault top (finished top.rules end.held) (is_some (entered (built puma_app) end.stopped))))))
+
+abbrev WholeAgrees : Option Command → Kinds → Walk → Type 0
+WholeAgrees command met end = Agrees (whole met end) (entered (built puma_app) end.stopped) command
+
+abbrev HasVerb : Text → Option Command → Type 0
+HasVerb verb None = ⊤
+HasVerb verb (Some command) = verb_of command ≡ verb
+
+agrees : (verb : Text) (kinds : Kinds) (rows : List Row) (command : Option Command) → HasVerb verb command → Says kinds rows command
+    → Agrees (or_else kinds []) (Some (verb, rows)) command
+agrees verb [] rows (Some command) has says = (rows, ap (λ v. Some (v, rows)) (sym has), says)
+agrees verb [] rows None has says = says
+agrees verb (k ∷ ks) rows (Some command) has says = says
+agrees verb (k ∷ ks) rows None has says = tt
+
+either_none : (b : Bool) (verb : Text) (command : Command) → verb_of command ≡ verb → HasVerb verb (if b then Some command else None)
+either_none true verb command has = has
+either_none false verb command has = tt
+
+says_once : (os ns : List Text) → HasVerb (codes "once") (once_of os ns)
+says_once [] [] = tt
+says_once [] (n ∷ []) = refl
+says_once [] (n ∷ n' ∷ ns) = tt
+says_once (o ∷ []) [] = tt
+says_once (o ∷ []) (n ∷ []) = either_none (bytes_eq (codes "--no-hijack") o) (codes "once") (once false n) refl
+says_once (o ∷ []) (n ∷ n' ∷ ns) = tt
+says_once (o ∷ o' ∷ os) ns = tt
+
+says_check : (os ns : List Text) → HasVerb (codes "check") (check_of os ns)
+says_check [] [] = tt
+says_check [] (n ∷ []) = refl
+says_check [] (n ∷ n' ∷ ns) = tt
+says_check (o ∷ os) ns = tt
+
+once_agrees : (words : List Text) → AllText words → AgreesOn (codes "once" ∷ words)
 unfolding clap_on_literals
-no_words = tt
+once_agrees words all =
+    let command = once_of (options words) (names words) in
+    subst₂ (WholeAgrees command) (sym (no_fault (codes "once") [] words)) (sym (folded (codes "once") words))
+    (agrees (codes "once") _ _ command (says_once (options words) (names words)) (once_read words all))
+
+check_agrees : (words : List Text) → AllText words → AgreesOn (codes "check" ∷ words)
+unfolding clap_on_literals
+check_agrees words all =
+    let command = check_of (options words) (names words) in
+    subst₂ (WholeAgrees command) (sym (no_fault (codes "check") [] words)) (sym (folded (codes "check") words))
+    (agrees (codes "check") _ _ command (says_check (options words) (names words)) (check_read words all))
+
+-- ---- no verb
+
+abbrev IsNoVerb : Text → Type 0
+IsNoVerb word = (bytes_eq (codes "once") word ≡ false) × (bytes_eq (codes "check") word ≡ false)
+
+no_command : (word : Text) (words : List Text) → IsNoVerb word → command_of (word ∷ words) ≡ None
+no_command word words is = rw (is.0, is.1) refl
+
+first_refused : (kinds more rest : Kinds) (met : Option (Text × List Row)) → IsRefused kinds → Agrees (or_else (or_else kinds more) rest) met None
+first_refused kinds more rest met refused = rw refused.2 tt
+
+refused_first : (word : Text) (words : List Text) → IsNoVerb word → IsRefused (turn_fault top verbs (walk_from nothing_held) word) → AgreesOn (word ∷ words)
+unfolding walk_fault
+refused_first word words is refused =
+    subst (Agrees (fault_of puma_app (word ∷ words)) (subcommand_of puma_app (word ∷ words))) (sym (no_command word words is))
+    (first_refused (turn_fault top verbs (walk_from nothing_held) word) _ _ _ refused)
+
+strange_first : (word : Text) → IsUnknown word → IsNoVerb word → Strange word → IsRefused (turn_fault top verbs (walk_from nothing_held) word)
+unfolding flags_fault
+strange_first word u is (long name v has other) = (kind.UnknownArgument, [], rw (is.0, is.1, u.ends, has) refl)
+strange_first word u is (short x flags c lacks has char) = (kind.UnknownArgument, [], rw (is.0, is.1, u.ends, lacks, has, char) refl)
+
+ends_first : (words : List Text) → AgreesOn (codes "--" ∷ words)
+unfolding clap_on_literals
+ends_first [] = tt
+ends_first (w ∷ words) = tt
+
+flag_first : (words : List Text) → AgreesOn (codes "--no-hijack" ∷ words)
+unfolding clap_on_literals
+flag_first words = tt
+
+other_agrees : (words : List Text) (word : Text) → IsUtf8 word → IsNoVerb word → AgreesOn (word ∷ words)
+other_agrees words = word_cases (λ word. IsNoVerb word → AgreesOn (word ∷ words)) (
+  (λ is. ends_first words),
+  (λ is. flag_first words),
+  (λ word u is. refused_first word words is (strange_first word u is u.strange)),
+  (λ word n is. refused_first word words is (kind.UnknownArgument, kind.InvalidSubcommand ∷ [], rw (is.0, is.1, n.ends, n.long, n.short) refl)),
+)
+
+-- ---- all the words
+
+not_check : (word : Text) (words : List Text) → IsUtf8 word → AllText words → bytes_eq (codes "once") word ≡ false → AgreesOn (word ∷ words)
+not_check word words utf8 all differs = elim (cases_Bool (bytes_eq (codes "check") word)) [
+  | inl same ↦ subst (λ v. AgreesOn (v ∷ words)) (same_bytes (codes "check") word same) (check_agrees words all)
+  | inr other ↦ other_agrees words word utf8 (differs, other)
+  ]
+
+pub all_agree : (words : List Text) → AllText words → AgreesOn words
+unfolding clap_on_literals
+all_agree [] all = tt
+all_agree (word ∷ words) all = elim (cases_Bool (bytes_eq (codes "once") word)) [
+  | inl same ↦ subst (λ v. AgreesOn (v ∷ words)) (same_bytes (codes "once") word same) (once_agrees words all.1)
+  | inr differs ↦ not_check word words all.0 all.1 differs
+  ]
+
+-- strings are text
+pub strings_are_text : {Z : Type 0} (words : List (String Z)) → AllText (map string_bytes words)
+strings_are_text [] = tt
+strings_are_text (w ∷ words) = (IsUtf8-string_bytes w, strings_are_text words)

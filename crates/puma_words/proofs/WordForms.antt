@@ -32,7 +32,7 @@ pub record IsName (word : Text) : Type 0 where
 
 -- ---- tests
 
-same_bytes : (xs ys : Text) → bytes_eq xs ys ≡ true → xs ≡ ys
+pub same_bytes : (xs ys : Text) → bytes_eq xs ys ≡ true → xs ≡ ys
 same_bytes xs ys same = (bytes_eq-Decides xs ys).0 same
 
 eq_from_test : (a b : ℕ) → (a == b) ≡ true → a ≡ b
