@@ -5,16 +5,19 @@ use Rattle.std.specs.Str.{IsUtf8, bytes_eq, chars}
 use Rattle.std.proofs.lemmas.Bool.{cases_Bool}
 use Rattle.std.proofs.lemmas.Str.{IsUtf8-string_bytes}
 use Rattle.clap.specs.Walk.{Names, Row, Walk, finished, nothing_held, settled, walk_from, walked}
-use Rattle.clap.specs.Simple.{Shape, built, entered, inherited, is_simple, names_of, new_shape, subcommand_of}
+use Rattle.clap.specs.Simple.{App, HasMatchesOf, Shape, subcommand_rows_of, built, entered, inherited, is_simple, names_of, new_shape, subcommand_of}
 use Rattle.clap.specs.Faults.{check_fault, defaults_fault, entered_fault, fault_of, flags_fault, is_simple_and_free, settle_fault, turn_fault, walk_fault}
-use Rattle.clap.specs.Kinds.{Kinds, or_else}
+use Rattle.clap.specs.Kinds.{HasKind, IsAmong, Kinds, or_else}
+use Rattle.clap.specs.Values.{kind_of}
+use Rattle.clap.specs.declared.error.Error.{Error}
+use Rattle.clap.specs.declared.parser.matches.ArgMatches.{ArgMatches}
 use Rattle.clap.specs.declared.error.kind.ErrorKind.{ErrorKind}
 use Rattle.clap.specs.declared.error.kind.ErrorKind.TheVariants as kind
 use Rattle.clap.proofs.OnLiterals.{clap_on_literals}
 use Rattle.clap.proofs.WalkLemmas.{walk_stopped}
 use Rattle.puma_words.specs.Words.{Command, Text, check_of, command_of, names, once, once_of, options}
-use Rattle.puma_words.specs.Program.{Met, puma_app, verb_of}
-use Rattle.puma_words.proofs.WordForms.{IsUnknown, Strange, long, short, same_bytes, word_cases}
+use Rattle.puma_words.specs.Program.{Follows, Met, puma_app, verb_of}
+use Rattle.puma_words.proofs.WordForms.{IsUnknown, Strange, long, nil≢cons, short, same_bytes, word_cases}
 use Rattle.puma_words.proofs.LineLemmas.{AllText, IsRefused, Says, check_read, once_read}
 
 -- the words are refused exactly where they say no command, and else the subcommand says it
@@ -167,3 +170,31 @@ all_agree (word ∷ words) all = elim (cases_Bool (bytes_eq (codes "once") word)
 pub strings_are_text : {Z : Type 0} (words : List (String Z)) → AllText (map string_bytes words)
 strings_are_text [] = tt
 strings_are_text (w ∷ words) = (IsUtf8-string_bytes w, strings_are_text words)
+
+-- ---- the two answers of a parse
+
+nothing_refuses : (kinds : Kinds) (met : Option (Text × List Row)) (says : Option Command) → Agrees kinds met says → kinds ≡ []
+    → (answer : Option Command) → Follows met answer → answer ≡ says
+nothing_refuses [] met (Some command) agrees none answer follows = follows command agrees
+nothing_refuses [] met None agrees none answer follows = absurd agrees
+nothing_refuses (k ∷ ks) met says agrees none answer follows = absurd (nil≢cons (sym none))
+
+pub answer_is : (app : App) (words : List Text) (m : ArgMatches) (answer : Option Command) → app ≡ puma_app → AllText words → HasMatchesOf app words m
+    → (is_simple_and_free app ≡ true → fault_of app words ≡ []) → Follows (subcommand_rows_of m) answer → answer ≡ command_of words
+answer_is app words m answer is all has none follows =
+    let met : subcommand_rows_of m ≡ subcommand_of puma_app words = (subst (λ a. HasMatchesOf a words m) is has simple).1 in
+    let clear : fault_of puma_app words ≡ [] = subst (λ a. is_simple_and_free a ≡ true → fault_of a words ≡ []) is none free in
+    nothing_refuses _ _ (command_of words) (all_agree words all) clear answer (subst (λ o. Follows o answer) met follows)
+
+something_refuses : (k : ErrorKind) (kinds : Kinds) (met : Option (Text × List Row)) (says : Option Command) → Agrees kinds met says → IsAmong k kinds
+    → None ≡ says
+something_refuses k [] met says agrees among = absurd among
+something_refuses k (x ∷ xs) met (Some command) agrees among = absurd agrees
+something_refuses k (x ∷ xs) met None agrees among = refl
+
+pub none_is : (app : App) (words : List Text) (e : Error) → app ≡ puma_app → AllText words → (is_simple_and_free app ≡ true → HasKind (fault_of app words) e)
+    → (kind_of e ≡ kind.OutOfMemory → ⊥) → None ≡ command_of words
+none_is app words e is all has other = elim (subst (λ a. is_simple_and_free a ≡ true → HasKind (fault_of a words) e) is has free) [
+  | inl memory ↦ absurd (other memory)
+  | inr among ↦ something_refuses (kind_of e) (fault_of puma_app words) (subcommand_of puma_app words) (command_of words) (all_agree words all) among
+  ]

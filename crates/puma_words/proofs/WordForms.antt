@@ -41,7 +41,7 @@ eq_from_test a b same = grind arith
 test_swapped : (a b : ℕ) → (a == b) ≡ false → (b == a) ≡ false
 test_swapped a b differs = grind arith
 
-nil≢cons : {X : Type 0} {x : X} {xs : List X} → [] ≡ x ∷ xs → ⊥
+pub nil≢cons : {X : Type 0} {x : X} {xs : List X} → [] ≡ x ∷ xs → ⊥
 nil≢cons e = cc
 
 some≢none : {X : Type 0} {x : X} → Some x ≡ None → ⊥
