@@ -130,7 +130,7 @@ once_strange word h none (long name None is other) = (kind.UnknownArgument, [], 
 once_strange word h none (long name (Some v) is other) = elim (cases_Bool (bytes_eq (codes "no-hijack") name)) [
   | inl same ↦ (kind.TooManyValues, [], rw (is, same) refl)
   | inr differs ↦ (kind.UnknownArgument, [], rw (is, differs) refl)
-  ]
+]
 once_strange word h none (short x flags c lacks is char) = (kind.UnknownArgument, [], rw (lacks, is, none, char) refl)
 
 -- and behind `check`

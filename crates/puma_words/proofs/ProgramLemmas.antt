@@ -156,7 +156,7 @@ not_check : (word : Text) (words : List Text) → IsUtf8 word → AllText words 
 not_check word words utf8 all differs = elim (cases_Bool (bytes_eq (codes "check") word)) [
   | inl same ↦ subst (λ v. AgreesOn (v ∷ words)) (same_bytes (codes "check") word same) (check_agrees words all)
   | inr other ↦ other_agrees words word utf8 (differs, other)
-  ]
+]
 
 pub all_agree : (words : List Text) → AllText words → AgreesOn words
 unfolding clap_on_literals
@@ -164,7 +164,7 @@ all_agree [] all = tt
 all_agree (word ∷ words) all = elim (cases_Bool (bytes_eq (codes "once") word)) [
   | inl same ↦ subst (λ v. AgreesOn (v ∷ words)) (same_bytes (codes "once") word same) (once_agrees words all.1)
   | inr differs ↦ not_check word words all.0 all.1 differs
-  ]
+]
 
 -- strings are text
 pub strings_are_text : {Z : Type 0} (words : List (String Z)) → AllText (map string_bytes words)
@@ -197,4 +197,4 @@ pub none_is : (app : App) (words : List Text) (e : Error) → app ≡ puma_app �
 none_is app words e is all has other = elim (subst (λ a. is_simple_and_free a ≡ true → HasKind (fault_of a words) e) is has free) [
   | inl memory ↦ absurd (other memory)
   | inr among ↦ something_refuses (kind_of e) (fault_of puma_app words) (subcommand_of puma_app words) (command_of words) (all_agree words all) among
-  ]
+]

@@ -164,14 +164,14 @@ hyphens_form P forms [] = forms.0
 hyphens_form P forms (z ∷ zs) = elim (cases_Bool (bytes_eq (codes "--no-hijack") (45 ∷ 45 ∷ z ∷ zs))) [
   | inl same ↦ subst P (same_bytes (codes "--no-hijack") (45 ∷ 45 ∷ z ∷ zs) same) forms.1
   | inr differs ↦ forms.2 (45 ∷ 45 ∷ z ∷ zs) (long_form z zs differs)
-  ]
+]
 
 hyphen_form : (P : Text → Type 0) → Forms P → (xs : Text) → IsUtf8 (45 ∷ xs) → P (45 ∷ xs)
 hyphen_form P forms [] utf8 = forms.3 (45 ∷ []) (record { ends = refl; option = refl; long = refl; short = refl })
 hyphen_form P forms (y ∷ ys) utf8 = elim (cases_Bool (y == 45)) [
   | inl same ↦ subst (λ k. P (45 ∷ k ∷ ys)) (sym (eq_from_test y 45 same)) (hyphens_form P forms ys)
   | inr differs ↦ forms.2 (45 ∷ y ∷ ys) (short_form y ys differs (test_swapped y 45 differs) utf8)
-  ]
+]
 
 -- each word is `--`, `--no-hijack`, an option that nobody has, or a name
 pub word_cases : (P : Text → Type 0) → Forms P → (word : Text) → IsUtf8 word → P word
@@ -179,4 +179,4 @@ word_cases P forms [] utf8 = forms.3 [] (record { ends = refl; option = refl; lo
 word_cases P forms (x ∷ xs) utf8 = elim (cases_Bool (x == 45)) [
   | inl same ↦ subst (λ k. P (k ∷ xs)) (sym (eq_from_test x 45 same)) (hyphen_form P forms xs (subst (λ k. IsUtf8 (k ∷ xs)) (eq_from_test x 45 same) utf8))
   | inr differs ↦ forms.3 (x ∷ xs) (name_form x xs differs)
-  ]
+]

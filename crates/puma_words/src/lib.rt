@@ -3,5 +3,7 @@
 
 mod command;
 mod program;
+#[cfg(test)]
+mod tests;
 
 pub use command::{Command, command_of};

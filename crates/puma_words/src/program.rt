@@ -29,7 +29,9 @@ fn once<'a>(alloc: Global) -> Result<Command<'a>, NoMemory>
     let no_hijack = Arg::new(alloc, "no-hijack")
         .long("no-hijack")
         .action(ArgAction::SetTrue);
-    Command::new(alloc, "once").arg(no_hijack)?.arg(stack(alloc))
+    Command::new(alloc, "once")
+        .arg(no_hijack)?
+        .arg(stack(alloc))
 }
 
 // `check STACK`

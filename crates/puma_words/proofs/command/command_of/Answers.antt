@@ -10,4 +10,4 @@ returns-in-Ok c = answer_is (app_of c.in_ok-program.field-0) (map string_bytes c
 
 pub returns : goal.returns
 returns c = none_is (app_of c.in_ok-program.field-0) (map string_bytes c.args.words.now) c.in-Err.error c.in_ok-program.ensures (strings_are_text c.args.words.now)
-    c.in-Err.ensures.kinds (λ memory. ?)
+    c.in-Err.ensures.kinds (λ memory. let same = c.kind.ensures ∙ memory in true≢false (sym (rw same at c.if-eq.ensures)))
