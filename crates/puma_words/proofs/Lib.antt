@@ -2,3 +2,4 @@ pub mod LineLemmas
 pub mod MatchesLemmas
 pub mod ProgramLemmas
 pub mod WordForms
+mod WorkedRows

@@ -1,12 +1,12 @@
 -- What `clap` makes of the words behind `once` and behind `check`: by what was read before them, what
 -- the rest of them says.
-use Rattle.std.proofs.Common.{◌≡◌, ◌∙◌, ℕ, Bool, true, false, suc, zero, inl, inr, refl, sym, ap, subst, subst₂, arith, rules, List, [], ◌∷◌, ◌++◌, Option, Some, None, codes}
-use Rattle.std.specs.Prelude.{⊤, fold, if◌then◌else◌, not, slice_get}
+use Rattle.std.proofs.Common.{◌≡◌, ◌∙◌, ℕ, Bool, true, false, inl, inr, refl, sym, ap, subst, subst₂, rules, List, [], ◌∷◌, Option, Some, None, codes}
+use Rattle.std.specs.Prelude.{⊤, fold}
 use Rattle.std.proofs.lemmas.Bool.{cases_Bool}
-use Rattle.std.specs.Str.{IsUtf8, bytes_eq, chars}
-use Rattle.clap.specs.Walk.{Held, value, Row, Rule, Walk, arg_by_index, arg_by_short, finished, idle, settled, to_positional, used, walked}
-use Rattle.clap.specs.Lexer.{long_of, short_of}
-use Rattle.clap.specs.Simple.{Shape, built, inherited, new_rule, new_shape}
+use Rattle.std.specs.Str.{IsUtf8, bytes_eq}
+use Rattle.clap.specs.Walk.{Held, value, Row, Rule, Walk, arg_by_index, finished, idle, settled, to_positional, used, walked}
+use Rattle.clap.specs.Lexer.{long_of}
+use Rattle.clap.specs.Simple.{Shape, new_rule, new_shape}
 use Rattle.clap.specs.Faults.{check_fault, defaults_fault, flag_word_fault, flags_fault, settle_fault, step_fault, turn_fault, walk_fault}
 use Rattle.clap.specs.Kinds.{Kinds, or_else}
 use Rattle.clap.specs.declared.builder.action.ArgAction.TheVariants.{Set, SetTrue}
@@ -14,9 +14,9 @@ use Rattle.clap.specs.declared.builder.value_parser.ValueParser.TheVariants as v
 use Rattle.clap.specs.declared.error.kind.ErrorKind.{ErrorKind}
 use Rattle.clap.specs.declared.error.kind.ErrorKind.TheVariants as kind
 use Rattle.clap.proofs.OnLiterals.{clap_on_literals}
-use Rattle.puma_words.specs.Words.{Command, Text, check_of, ends_options, is_option, names, once, check, once_of, options}
-use Rattle.puma_words.specs.Program.{Holds, puma_app}
-use Rattle.puma_words.proofs.WordForms.{IsName, IsUnknown, Strange, long, short, names-name, names-ends, names-option, options-ends, options-name, options-option, word_cases}
+use Rattle.puma_words.specs.Words.{Command, Text, check_of, names, once_of, options}
+use Rattle.puma_words.specs.Program.{Holds}
+use Rattle.puma_words.proofs.WordForms.{IsName, IsUnknown, Strange, long, short, names-name, names-option, options-name, options-option, word_cases}
 
 -- ---- the two subcommands as `clap` builds them
 

@@ -1,11 +1,11 @@
 -- What the code reads of the matches.
-use Rattle.std.proofs.Common.{◌≡◌, ◌∙◌, ◌≢◌, ℕ, Bool, true, false, refl, sym, ap, ap₂, subst, List, Option, Some, None, codes, true≢false}
+use Rattle.std.proofs.Common.{◌≡◌, ◌∙◌, Bool, true, false, refl, sym, ap, ap₂, subst, Option, Some, None, codes, true≢false}
 use Rattle.std.specs.Prelude.{Box, if◌then◌else◌, not, option_map}
 use Rattle.std.proofs.lemmas.Option.{none-some, same_Some}
 use Rattle.std.specs.Box.{box_value}
 use Rattle.std.specs.Str.{bytes_eq}
-use Rattle.clap.specs.Matches.{first_value, found_of, one_text, subcommand_name_of}
-use Rattle.clap.specs.Walk.{Row, first_of, one_of, rows_of}
+use Rattle.clap.specs.Matches.{first_value, one_text, subcommand_name_of}
+use Rattle.clap.specs.Walk.{rows_of}
 use Rattle.clap.specs.Simple.{subcommand_rows, subcommand_rows_of}
 use Rattle.clap.specs.declared.parser.matches.ArgMatches.{ArgMatches}
 use Rattle.clap.specs.declared.parser.matches.ArgMatches.TheViews.{out-ArgMatches, out-SubCommand}

@@ -1,11 +1,11 @@
 -- What `clap` makes of all the words.
-use Rattle.std.proofs.Common.{◌≡◌, ◌∙◌, ℕ, Bool, true, false, inl, inr, refl, sym, ap, subst, subst₂, List, [], ◌∷◌, ◌++◌, Option, Some, None, codes, map}
+use Rattle.std.proofs.Common.{◌≡◌, Bool, true, false, inl, inr, refl, sym, ap, subst, subst₂, List, [], ◌∷◌, ◌++◌, Option, Some, None, codes, map}
 use Rattle.std.specs.Prelude.{⊤, fold, if◌then◌else◌, is_some, string_bytes, String}
-use Rattle.std.specs.Str.{IsUtf8, bytes_eq, chars}
+use Rattle.std.specs.Str.{IsUtf8, bytes_eq}
 use Rattle.std.proofs.lemmas.Bool.{cases_Bool}
 use Rattle.std.proofs.lemmas.Str.{IsUtf8-string_bytes}
 use Rattle.clap.specs.Walk.{Names, Row, Walk, finished, nothing_held, settled, walk_from, walked}
-use Rattle.clap.specs.Simple.{App, HasMatchesOf, Shape, subcommand_rows_of, built, entered, inherited, is_simple, names_of, new_shape, subcommand_of}
+use Rattle.clap.specs.Simple.{App, HasMatchesOf, Shape, subcommand_rows_of, built, entered, is_simple, names_of, subcommand_of}
 use Rattle.clap.specs.Faults.{check_fault, defaults_fault, entered_fault, fault_of, flags_fault, is_simple_and_free, settle_fault, turn_fault, walk_fault}
 use Rattle.clap.specs.Kinds.{HasKind, IsAmong, Kinds, or_else}
 use Rattle.clap.specs.Values.{kind_of}

@@ -1,7 +1,7 @@
 -- What a word is, as `clap` looks at it and as the definitions do.
-use Rattle.std.proofs.Common.{◌≡◌, ◌∙◌, ◌≢◌, ◌+◌, ◌==◌, ◌||◌, ℕ, inl, inr, Bool, cond, true, false, suc, zero, refl, sym, ap, ap₂, subst, arith, rules, List, [], ◌∷◌, ◌++◌, length, take, drop, Option, Some, None, codes, true≢false}
+use Rattle.std.proofs.Common.{◌≡◌, ◌∙◌, ◌+◌, ◌==◌, ◌||◌, ℕ, inl, inr, Bool, cond, true, false, suc, refl, sym, ap, ap₂, subst, arith, List, [], ◌∷◌, ◌++◌, take, drop, Option, Some, None, codes, true≢false}
 use Rattle.std.specs.Prelude.{not, slice_get, if◌then◌else◌}
-use Rattle.std.specs.List.{after_first, before_first, filter, list_any, position_or_len, prefix_len}
+use Rattle.std.specs.List.{after_first, before_first, filter, list_any, position_or_len}
 use Rattle.std.specs.Str.{IsUtf8, bytes_eq, chars, encode_utf8_all}
 use Rattle.std.proofs.lemmas.Bool.{cases_Bool}
 use Rattle.std.proofs.lemmas.Str.{IsCharBoundary-after_ascii, IsUtf8-drop, encodes-chars}

@@ -1,16 +1,9 @@
 -- The program's command line, as `clap` is told it. This serves inner contracts alone.
 use Rattle.std.specs.Prelude.{◌≡◌, List, Option, Some, true, codes, if◌then◌else◌}
-use Rattle.clap.specs.Words.{App, Row, Rule, Shape, Text, first_of, new_app, new_rule, one_of, with_rule, with_subcommand}
+use Rattle.clap.specs.Words.{App, Row, Rule, Text, first_of, new_app, new_rule, one_of, with_rule, with_subcommand}
 use Rattle.clap.specs.Simple.{on_top}
 use Rattle.clap.specs.declared.builder.action.ArgAction.TheVariants.{SetTrue}
 use Rattle.puma_words.specs.Words as words
-use Rattle.puma_words.specs.declared.command.Command.{Command}
-use Rattle.puma_words.specs.declared.command.Command.TheVariants.{Once, Check}
-
--- what the code's command says
-abbrev pub said : Command → words.Command
-said (Once hijack stack) = words.once hijack stack.now
-said (Check stack) = words.check stack.now
 
 abbrev pub no_hijack_rule : Rule
 no_hijack_rule = record (new_rule (codes "no-hijack")) { long = Some (codes "no-hijack"); action = Some SetTrue }

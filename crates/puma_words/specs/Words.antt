@@ -1,6 +1,6 @@
 -- The words behind the program's name, and the command that they say. This project's own, in the manner
 -- of command lines everywhere: an option begins with a hyphen, and behind `--` there are none.
-use Rattle.std.specs.Prelude.{◌≡◌, ◌==◌, ◌++◌, ℕ, Bool, true, false, not, List, [], ◌∷◌, Option, None, Some, if◌then◌else◌, codes}
+use Rattle.std.specs.Prelude.{◌==◌, ◌++◌, ℕ, Bool, true, false, not, List, [], ◌∷◌, Option, None, Some, if◌then◌else◌, codes}
 use Rattle.std.specs.List.{after_first, before_first, filter}
 use Rattle.std.specs.Str.{bytes_eq}
 
@@ -50,7 +50,3 @@ command_of [] = None
 command_of (verb ∷ words) =
     if bytes_eq (codes "once") verb then once_of (options words) (names words)
     else (if bytes_eq (codes "check") verb then check_of (options words) (names words) else None)
-
--- the words say this command
-abbrev pub Gives : List Text → Command → Type 0
-Gives words command = command_of words ≡ Some command

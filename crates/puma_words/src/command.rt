@@ -2,7 +2,8 @@
 ghost use Rattle.std.specs.Prelude.{◌≡◌, IfOk, map, option_map, string_bytes};
 ghost use Rattle.puma_words.specs.Words.{command_of};
 ghost use Rattle.clap.specs.Words.{subcommand_rows_of};
-ghost use Rattle.puma_words.specs.Program.{said, Follows};
+ghost use Rattle.puma_words.specs.Program.{Follows};
+ghost use Rattle.puma_words.specs.Said.{said};
 
 use crate::program::program;
 use clap::ArgMatches;
@@ -34,7 +35,8 @@ pub enum Command<'a> {
 /// Behind `--` each word is a name, whatever it begins with. `clap` reads the words, and None comes exactly
 /// where it refuses them for another cause than memory. There is no `--help` and no `--version` here.
 ///
-/// It takes memory, and gives back all but what the answer borrows from the words.
+/// It takes memory while it reads, and a refused allocation is the only error. The answer has no memory of
+/// its own: its stack is one of the words.
 pub fn command_of<'a>(alloc: Global, words: &'a [String]) -> Result<Option<Command<'a>>, NoMemory>
     ensures { IfOk result (λ r. option_map said r ≡ command_of (map string_bytes words.entry.now)) }
 {

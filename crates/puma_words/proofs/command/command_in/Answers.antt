@@ -1,4 +1,3 @@
-use Rattle.std.proofs.Common.{refl}
 use Rattle.puma_words.proofs.MatchesLemmas.{is_check, is_once, knows, never_none}
 use Rattle.clap.specs.Words.{found_of}
 use Rattle.puma_words.proofs.command.command_in.Goals as goal

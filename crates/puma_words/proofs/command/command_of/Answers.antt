@@ -1,4 +1,4 @@
-use Rattle.std.proofs.Common.{◌≡◌, ◌∙◌, refl, sym, ap, true≢false}
+use Rattle.std.proofs.Common.{◌∙◌, sym, true≢false}
 use Rattle.std.specs.Prelude.{map, string_bytes}
 use Rattle.clap.specs.Words.{app_of}
 use Rattle.puma_words.proofs.ProgramLemmas.{answer_is, none_is, strings_are_text}
