@@ -167,6 +167,7 @@ fn counted(steps: usize, inner: Block, outer: Vec<Block>) -> Result<Standing, u8
 }
 
 // The block around one that this line ends. A cascade holds no block.
+#[tactic(auto, using(crate::proofs::BlockLemmas::blocks))]
 fn around_ended(line: u32, inner: Block, around: Block) -> Result<Block, NoMemory>
     ensures { IfOk result (λ block. spec.kept_block block ≡ spec.kept_around line (spec.kept_block inner) (spec.kept_block around)) }
 {

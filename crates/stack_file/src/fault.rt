@@ -23,7 +23,9 @@ pub enum ReadFault {
 }
 
 impl From<NoMemory> for ReadFault {
-    ghost from_gives = { λ refused fault. fault ≡ ReadFault.NoMemory };
+    ghost use Rattle.stack_file.specs.declared.fault.ReadFault.TheVariants.{NoMemory};
+
+    ghost from_gives = { λ _ fault. fault ≡ NoMemory };
 
     fn from(_refused: NoMemory) -> ReadFault {
         ReadFault::NoMemory

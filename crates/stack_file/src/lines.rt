@@ -1,5 +1,6 @@
 // Lines and words.
 ghost use Rattle.std.specs.Prelude.{◌≡◌, ◌<◌, ◌∷◌, IfOk, length, option_map};
+ghost use Rattle.std.specs.List.{list_all};
 ghost use Rattle.stack_file.specs.Kept.{BeginsWith};
 ghost use Rattle.stack_file.specs.Lines as spec;
 
@@ -25,7 +26,14 @@ pub(crate) fn first_line(text: &[u8]) -> (&[u8], &[u8])
 pub(crate) fn is_clean(line: &[u8]) -> bool
     ensures { result ≡ spec.is_clean line.now }
 {
-    line.iter().all(|b| is_printable(*b)) && unindented(line).len() <= LINE
+    is_printed(line) && unindented(line).len() <= LINE
+}
+
+// Whether each byte may stand in a stack file.
+fn is_printed(line: &[u8]) -> bool
+    ensures { result ≡ list_all spec.is_printable line.now }
+{
+    line.iter().all(|b| is_printable(*b))
 }
 
 fn is_printable(b: u8) -> bool
@@ -38,10 +46,11 @@ fn is_printable(b: u8) -> bool
 fn unindented(line: &[u8]) -> &[u8]
     ensures { result.now ≡ spec.unindented line.now }
 {
-    match line.iter().position(|b| *b != b' ') {
-        Some(at) => &line[at..],
-        None => &line[line.len()..],
+    let mut rest = line;
+    while let [b' ', after @ ..] = rest {
+        rest = after;
     }
+    rest
 }
 
 // The first word, if there is one, and what stands behind it.

@@ -61,6 +61,7 @@ fn is_comment(word: &[u8]) -> bool
     }
 }
 
+#[tactic(auto, unfolding(crate::specs::Said::verb_line))]
 fn verb_line(alloc: Global, verb: &[u8], arguments: &[Bytes]) -> Result<Said, NoMemory>
     ensures { IfOk result (λ s. said_now s ≡ spec.verb_line verb.now arguments.now) }
 {

@@ -8,6 +8,7 @@ use stock_apps::WordsFault;
 use stock_middleware::Ware;
 
 // The middleware that a name and its arguments, which are texts, say.
+#[tactic(auto, unfolding(crate::specs::Wares::ware_of))]
 pub(crate) fn ware_of(
     alloc: Global,
     name: &[u8],
