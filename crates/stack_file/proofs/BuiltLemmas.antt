@@ -45,18 +45,18 @@ lasting (Then (Holds place block) p) t = lasting p t
 lasting (Then (EndsAny apps) p) t = lasting p (Tries apps)
 
 pub ending : (p : Plan App) → plan_answers p ≡ true → (u : Tree App) × (last_end None (plan_parts App p) ≡ Some u)
-ending Done yes = cc
-ending (Then (Uses w) p) yes = ending p yes
-ending (Then (plans.Ends a) p) yes = lasting p (Calls a)
-ending (Then (Holds place block) p) yes = ending p yes
-ending (Then (EndsAny apps) p) yes = lasting p (Tries apps)
+ending Done held = cc
+ending (Then (Uses w) p) held = ending p held
+ending (Then (plans.Ends a) p) held = lasting p (Calls a)
+ending (Then (Holds place block) p) held = ending p held
+ending (Then (EndsAny apps) p) held = lasting p (Tries apps)
 
 pub unending : (p : Plan App) → plan_answers p ≡ false → last_end None (plan_parts App p) ≡ None
-unending Done no = refl
-unending (Then (Uses w) p) no = unending p no
-unending (Then (plans.Ends a) p) no = cc
-unending (Then (Holds place block) p) no = unending p no
-unending (Then (EndsAny apps) p) no = cc
+unending Done fails = refl
+unending (Then (Uses w) p) fails = unending p fails
+unending (Then (plans.Ends a) p) fails = cc
+unending (Then (Holds place block) p) fails = unending p fails
+unending (Then (EndsAny apps) p) fails = cc
 
 -- with something that answers, all is built
 pub record Strong (p : Plan App) : Type 0 where
@@ -134,20 +134,20 @@ wrapped : (w : Ware) (b y rest : Bool) (o : Option (Tree App)) → is_some o ≡
 wrapped w b y rest None e = sym e
 wrapped w b y rest (Some t) e = sym e
 
-answered_or : (yes row : Bool) → yes ≡ true → yes || row ≡ true
-answered_or yes row e = rw e refl
+answered_or : (held row : Bool) → held ≡ true → held || row ≡ true
+answered_or held row e = rw e refl
 
 -- a block without a default has an application just where it suffices
 pub suffices_is : (p : Plan App) → Strong p → Weak p → is_some (build_plan App p None) ≡ plan_suffices p
 suffices_is p s w = by_answers (plan_answers p) refl
   where
-    by_answers : (yes : Bool) → plan_answers p ≡ yes → is_some (build_plan App p None) ≡ plan_suffices p
+    by_answers : (held : Bool) → plan_answers p ≡ held → is_some (build_plan App p None) ≡ plan_suffices p
     by_answers true is =
         let l = ending p is in
         let a = s.around_some l.0 in
         ap (λ r. is_some (around App r (plan_parts App p))) l.1 ∙ ap (λ o. is_some o) a.1 ∙ sym (answered_or (plan_answers p) (is_yes (plan_row p None)) is)
     by_answers false is =
-        ap (λ r. is_some (around App r (plan_parts App p))) (unending p is) ∙ w.alone ∙ ap (λ yes. yes || is_yes (plan_row p None)) (sym is)
+        ap (λ r. is_some (around App r (plan_parts App p))) (unending p is) ∙ w.alone ∙ ap (λ held. held || is_yes (plan_row p None)) (sym is)
 
 -- a row of maps by what stands behind it
 row_alone : (place : List ℕ) (block : Block App) (ps : List (Part App)) (enough : Bool)

@@ -59,7 +59,7 @@ alone_ends Done = []
 alone_ends (Then i p) = item_ends_built i None ++ alone_ends p
 
 no_default : (p : Plan App) (b : Bool) → is_yes (plan_row p (Some b)) ≡ false → default_before None p ≡ None
-no_default p b no = by_behind (behind App None (plan_parts App p)) (sym ((weak p).after b) ∙ no)
+no_default p b fails = by_behind (behind App None (plan_parts App p)) (sym ((weak p).after b) ∙ fails)
   where
     by_behind : (o : Option (Option (Tree App))) → counts b o (is_some (places None (plan_parts App p))) ≡ false → or_none o ≡ None
     by_behind None e = refl
@@ -68,13 +68,13 @@ no_default p b no = by_behind (behind App None (plan_parts App p)) (sym ((weak p
 
 -- where a block doesn't suffice, no map in it has a default
 pub unbuilt_alone : (p : Plan App) (o : Option Bool) → is_yes (plan_row p o) ≡ false → ends_built p None ≡ alone_ends p
-unbuilt_alone Done o no = refl
-unbuilt_alone (Then (Uses w) p) o no = unbuilt_alone p None no
-unbuilt_alone (Then (plans.Ends a) p) o no = unbuilt_alone p o no
-unbuilt_alone (Then (EndsAny apps) p) o no = ap (λ bs. true ∷ bs) (unbuilt_alone p o no)
-unbuilt_alone (Then (Holds place block) p) o no =
-    ap (λ d. item_ends_built (Holds place block) d ++ ends_built p None) (no_default p (and_row o (plan_suffices block)) no)
-    ∙ ap (λ bs. item_ends_built (Holds place block) None ++ bs) (unbuilt_alone p (Some (and_row o (plan_suffices block))) no)
+unbuilt_alone Done o fails = refl
+unbuilt_alone (Then (Uses w) p) o fails = unbuilt_alone p None fails
+unbuilt_alone (Then (plans.Ends a) p) o fails = unbuilt_alone p o fails
+unbuilt_alone (Then (EndsAny apps) p) o fails = ap (λ bs. true ∷ bs) (unbuilt_alone p o fails)
+unbuilt_alone (Then (Holds place block) p) o fails =
+    ap (λ d. item_ends_built (Holds place block) d ++ ends_built p None) (no_default p (and_row o (plan_suffices block)) fails)
+    ∙ ap (λ bs. item_ends_built (Holds place block) None ++ bs) (unbuilt_alone p (Some (and_row o (plan_suffices block))) fails)
 
 and_left : (a b : Bool) → a && b ≡ true → a ≡ true
 and_left true b e = refl
@@ -99,7 +99,7 @@ alone_built block place inside enough =
     yes_append (ends_built block (last_end None (plan_parts App block))) (is_some (build_plan App block None) ∷ [])
     (by_answers (plan_answers block) refl enough) (suffices_is block (strong block) (weak block) ∙ enough, tt)
   where
-    by_answers : (yes : Bool) → plan_answers block ≡ yes → plan_answers block || is_yes (plan_row block None) ≡ true → AllYes (ends_built block (last_end None (plan_parts App block)))
+    by_answers : (held : Bool) → plan_answers block ≡ held → plan_answers block || is_yes (plan_row block None) ≡ true → AllYes (ends_built block (last_end None (plan_parts App block)))
     by_answers true is e =
         let l = ending block is in
         subst (λ (r : Option (Tree App)). AllYes (ends_built block r)) (sym l.1) (built_within block l.0)
@@ -115,17 +115,17 @@ row_built place block p b enough inside (Some (Some t)) e = item_built_within (H
 -- where a row of maps suffices, each block in it has an application
 mutual
   pub all_alone : (p : Plan App) (o : Option Bool) → is_yes (plan_row p o) ≡ true → AllYes (ends_built p None)
-  all_alone Done o yes = tt
-  all_alone (Then i p) o yes = item_all_alone i p o yes (all_alone p)
+  all_alone Done o held = tt
+  all_alone (Then i p) o held = item_all_alone i p o held (all_alone p)
 
   item_all_alone : (i : Item App) (p : Plan App) (o : Option Bool) → is_yes (plan_row p (item_row i o)) ≡ true → ((q : Option Bool) → is_yes (plan_row p q) ≡ true → AllYes (ends_built p None)) → AllYes (ends_built (Then i p) None)
-  item_all_alone (Uses w) p o yes more = more None yes
-  item_all_alone (plans.Ends a) p o yes more = more o yes
-  item_all_alone (EndsAny apps) p o yes more = (refl, more o yes)
-  item_all_alone (Holds place block) p o yes more =
+  item_all_alone (Uses w) p o held more = more None held
+  item_all_alone (plans.Ends a) p o held more = more o held
+  item_all_alone (EndsAny apps) p o held more = (refl, more o held)
+  item_all_alone (Holds place block) p o held more =
       yes_append (item_ends_built (Holds place block) (default_before None p)) (ends_built p None)
-      (row_built place block p (and_row o (plan_suffices block)) (row_last o (plan_suffices block)) (all_alone block) (behind App None (plan_parts App p)) (sym ((weak p).after (and_row o (plan_suffices block))) ∙ yes))
-      (more (Some (and_row o (plan_suffices block))) yes)
+      (row_built place block p (and_row o (plan_suffices block)) (row_last o (plan_suffices block)) (all_alone block) (behind App None (plan_parts App p)) (sym ((weak p).after (and_row o (plan_suffices block))) ∙ held))
+      (more (Some (and_row o (plan_suffices block))) held)
 
 -- of a block that ends at a line: the first `end` at which a block has no application, its own counted
 pub block_lacks : (place : List ℕ) (block : Plan App) (within : List ℕ) (n : ℕ) → length (alone_ends block) ≡ length within

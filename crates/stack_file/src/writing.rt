@@ -95,18 +95,33 @@ fn write_ware(ware: &Ware, out: &mut Vec<u8>) -> Result<(), NoMemory>
     match ware {
         Ware::Head => put_word(b"head", out),
         Ware::ContentLength => put_word(b"content_length", out),
-        Ware::ContentType(kind) => {
-            put_word(b"content_type", out)?;
-            put_text(kind.get(), out)
-        }
+        Ware::ContentType(kind) => put_one(b"content_type", kind.get(), out),
         Ware::MethodOverride => put_word(b"method_override", out),
-        Ware::SetHeader(name, value) => {
-            put_word(b"set_header", out)?;
-            put_text(name.get(), out)?;
-            put_text(value.get(), out)
-        }
+        Ware::SetHeader(name, value) => put_two(b"set_header", name.get(), value.get(), out),
         Ware::Lint => put_word(b"lint", out),
     }
+}
+
+// A name and one text.
+fn put_one(name: &[u8], text: &[u8], out: &mut Vec<u8>) -> Result<(), NoMemory>
+    ensures { OnOk result (out.new.items ≡ out.old.items ++ spec.spaced (name.now ∷ escaped text.now ∷ [])) }
+{
+    put_word(name, out)?;
+    put_text(text, out)
+}
+
+// A name and two texts.
+fn put_two(
+    name: &[u8],
+    first: &[u8],
+    second: &[u8],
+    out: &mut Vec<u8>,
+) -> Result<(), NoMemory>
+    ensures { OnOk result (out.new.items ≡ out.old.items ++ spec.spaced (name.now ∷ escaped first.now ∷ escaped second.now ∷ [])) }
+{
+    put_word(name, out)?;
+    put_text(first, out)?;
+    put_text(second, out)
 }
 
 fn write_map(place: &[u8], margin: &[u8], out: &mut Vec<u8>) -> Result<(), NoMemory>
