@@ -43,7 +43,7 @@ snoc_alone (x ∷ items) i = ap (λ bs. item_ends_built x None ++ bs) (snoc_alon
 
 -- how many `end` lines stand in a block
 mutual
-  ends_length : (p : Plan App) (r : Option (Tree App)) → length (ends_built p r) ≡ length (alone_ends p)
+  pub ends_length : (p : Plan App) (r : Option (Tree App)) → length (ends_built p r) ≡ length (alone_ends p)
   ends_length Done r = refl
   ends_length (Then i p) r = item_ends_length i p r (ends_length p r)
 
@@ -237,7 +237,7 @@ closing_fine : (n steps : ℕ) (inner : OpenBlock) (outer : List OpenBlock) → 
 closing_fine n steps inner [] h k = tt
 closing_fine n steps inner (next ∷ outer) h k = (around_lined n inner next h k.0, k.1)
 
-step_fine : (n : ℕ) (what : Said) (s : Standing) → IsLined s.inner → AreLined s.outer → IsFine (stepped n what s)
+pub step_fine : (n : ℕ) (what : Said) (s : Standing) → IsLined s.inner → AreLined s.outer → IsFine (stepped n what s)
 step_fine n Nothing s h k = (h, k)
 step_fine n (UseLine ware) s h k = use_fine ware s.steps s.outer s.inner h k
 step_fine n (RunLine app) s h k = run_fine app s.steps s.outer s.inner h k
