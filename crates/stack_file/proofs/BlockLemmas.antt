@@ -6,7 +6,7 @@ use Rattle.builder_core.specs.Plan.{Holds, plan_of_items, item}
 use Rattle.builder_core.specs.declared.steps.Steps.{Steps}
 use Rattle.builder_core.specs.declared.steps.Line.{Line}
 use Rattle.builder_core.specs.declared.steps.Line.TheVariants.{Map}
-use Rattle.builder_core.proofs.Folds.{item-map, plan-lines, item-cascade}
+use Rattle.builder_core.proofs.CallerLemmas.{item-map, plan-lines, item-cascade}
 use Rattle.stock_apps.specs.declared.app.App.{App}
 
 pub item-block : (place : List ℕ) (s : Steps App) → item (Map place s) ≡ Holds place (plan_of_items (map item s.lines.items))

@@ -4,7 +4,7 @@ use Rattle.std.proofs.lemmas.List.{append-nil}
 use Rattle.builder_core.specs.Plan.{plan_of_items, plan, item}
 use Rattle.builder_core.specs.declared.steps.Steps.{Steps}
 use Rattle.builder_core.specs.declared.steps.Line.{Line}
-use Rattle.builder_core.proofs.Folds.{item-use, item-run, item-map, item-cascade, plan-lines}
+use Rattle.builder_core.proofs.CallerLemmas.{item-use, item-run, item-map, item-cascade, plan-lines}
 use Rattle.stock_apps.specs.declared.app.App.{App}
 use Rattle.stack_file.specs.Canon.{item_text, plan_text}
 
