@@ -1,0 +1,12 @@
+pub mod Build
+pub mod Builds
+pub mod Counts
+pub mod Groups
+pub mod Leaving
+pub mod Meaning
+pub mod Nodes
+pub mod Places
+pub mod Plan
+pub mod Runs
+pub mod Spread
+pub mod Tree
