@@ -1,0 +1,5 @@
+pub mod LineLemmas
+pub mod MatchesLemmas
+pub mod ProgramLemmas
+pub mod WordForms
+mod WorkedRows
