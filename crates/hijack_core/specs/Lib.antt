@@ -1,3 +1,4 @@
-pub mod Mirror
 pub mod Said
 pub mod Silence
+pub mod Stock
+pub mod StockLaws

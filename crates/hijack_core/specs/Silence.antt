@@ -1,5 +1,5 @@
 -- What a hijacker says that says nothing and closes, and its laws. This project's own.
-use Rattle.std.specs.Prelude.{◌≡◌, ℕ, ◌≤◌, true, false, List, [], ◌++◌, length, refl}
+use Rattle.std.specs.Prelude.{◌≡◌, ℕ, ◌≤◌, true, false, List, [], length, refl}
 use Rattle.std.proofs.Common.{lit≤}
 use Rattle.std.proofs.lemmas.Bool.{false≢true}
 use Rattle.hijack_core.specs.declared.hijack.Said.{Said}
