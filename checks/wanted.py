@@ -77,9 +77,12 @@ USAGE = (2, b"", b"puma: usage\n")
 ABSENT = (3, b"", b"puma: file absent\n")
 LONG = (3, b"", b"puma: file long\n")
 UNREADABLE = (3, b"", b"puma: file failed\n")
-NO_STACK = (4, b"", b"puma: stack line 1 S0\n")
 READ_FAILED = (6, b"", b"puma: read failed\n")
 WRITE_FAILED = (7, b"", b"puma: write failed\n")
+
+
+def bad_stack(line, rule):
+    return (4, b"", b"puma: stack line %d S%d\n" % (line, rule))
 
 
 def refused(fault):
