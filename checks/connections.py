@@ -9,13 +9,9 @@ import time
 
 from model import once, replies
 from program import PUMA, SECONDS, Cut, write
-from wanted import (ANSWERED, CLOSE, CLOSED, CODED, ECHO, GET, HEAD_ONLY, HELLO, KEEP, LENGTH, NOTHING, REQUEST_LIMIT,
-                    TWICE, post, refusal, refused, reply, served)
+from wanted import (ANSWERED, CLOSE, CLOSED, CLOSING, CODED, ECHO, GET, HEAD, HEAD_ONLY, HELLO, KEEP, LENGTH, NOTHING, OLD,
+                    OLD_KEPT, REQUEST_LIMIT, TWICE, post, refusal, refused, reply, served)
 
-CLOSING = GET[:-2] + b"Connection: close\r\n\r\n"
-OLD = b"GET / HTTP/1.0\r\n\r\n"
-OLD_KEPT = b"GET / HTTP/1.0\r\nConnection: keep-alive\r\n\r\n"
-HEAD = GET.replace(b"GET", b"HEAD")
 CURL = b"GET /index.html?x=1 HTTP/1.1\r\nHost: localhost:9292\r\nUser-Agent: curl/8.5.0\r\nAccept: */*\r\n\r\n"
 FIVE = post([LENGTH + b"5"], b"hello")
 CHUNKS = post(CODED, b"3\r\nhel\r\n2;x\r\nlo\r\n0\r\nT: 1\r\n\r\n")

@@ -7,14 +7,7 @@ from model import endpoint_of, escaped, once
 from program import write
 from wanted import CLOSE, CODED, ECHO, GET, HEAD_ONLY, KEEP, LENGTH, NO_STACK, broken, post, reply, served
 
-OK = b"HTTP/1.1 200 OK\r\n"
-PLAIN = b"content-type: text/plain\r\n"
 CHUNKED = b"transfer-encoding: chunked\r\n"
-E = b"\r\n"
-HEAD = GET.replace(b"GET", b"HEAD")
-OLD = b"GET / HTTP/1.0\r\n\r\n"
-OLD_KEPT = b"GET / HTTP/1.0\r\nConnection: keep-alive\r\n\r\n"
-CLOSING = GET[:-2] + b"Connection: close\r\n\r\n"
 POST = post([LENGTH + b"5"], b"hello")
 # Each form of a request, alone and with a request behind it.
 FORMS = [
