@@ -8,7 +8,7 @@ import subprocess
 import time
 
 from model import once, replies
-from program import PUMA, SECONDS, Cut, write
+from program import DIRECTLY, PUMA, SECONDS, Cut, write
 from wanted import (ANSWERED, CLOSE, CLOSED, CLOSING, CODED, ECHO, GET, HEAD, HEAD_ONLY, HELLO, KEEP, LENGTH, NOTHING, OLD,
                     OLD_KEPT, REQUEST_LIMIT, TWICE, post, refusal, refused, reply, served)
 
@@ -85,7 +85,7 @@ def check_most(checks):
 
 def check_pipelined(checks):
     """Several requests in one input, in pieces of each size, and the same cut at each place."""
-    checks.begin("pipelined requests")
+    checks.begin("pipelined requests", DIRECTLY)
     if not HAS_PIECES:
         checks.pass_over("all", "there are no sockets that keep pieces apart")
         return
@@ -115,7 +115,7 @@ def check_pipelined(checks):
 
 def check_ends(checks):
     """A peer that ends: between requests, inside a head, inside a body."""
-    checks.begin("ends")
+    checks.begin("ends", DIRECTLY)
     hello = reply(b"hello")
     for name, want, text in [
         ("behind a request", ANSWERED, GET), ("behind two requests", TWICE, GET * 2),
