@@ -107,6 +107,8 @@ def check_options(checks):
     checks.wants("an absent file behind the option", ABSENT, "once", "--no-hijack", "nofile", stdin=GET)
     checks.wants("an absent file behind two hyphens", ABSENT, "once", "--", "-nofile", stdin=GET)
     checks.wants("an empty name behind two hyphens", ABSENT, "once", "--", "", stdin=GET)
+    for name in names:
+        os.remove(name)
 
 
 def check_help(checks):
@@ -124,7 +126,7 @@ def check_help(checks):
                 named = command.encode() in text or asks is ASKS_VERSION
                 checks.counts(f"{command} {word}", (0, True, True, b""), (status, named, b"puma" in text, errors))
     text = (run(["--help"]) or NOTHING)[1].decode("ascii", "replace")
-    checks.counts("each exit status is told", [], [n for n in "01234679" if f"\n  {n}  " not in text and f"  {n}  " not in text])
+    checks.counts("each exit status is told", [], [n for n in "01234679" if f"  {n}  " not in text])
     checks.counts("how wide it is", True, 0 < max(map(len, text.split("\n"))) < 80)
     version = (run(["--version"]) or NOTHING)[1]
     checks.counts("a version is one line", (1, True), (version.count(b"\n"), version.startswith(b"puma ")))
