@@ -32,7 +32,7 @@ GROUPS = (
     words.check_words, words.check_options, words.check_help, words.check_files,
     stacks.check_rules, stacks.check_written, stacks.check_arguments, stacks.check_file_sizes, random_stacks.check_random,
     middleware.check_answers, middleware.check_methods,
-    places.check_places, places.check_defaults, places.check_cascades, places.check_largest, places.check_examples,
+    places.check_rows, places.check_places, places.check_defaults, places.check_cascades, places.check_largest, places.check_examples,
     streams.check_statuses, streams.check_streams, streams.check_reads_and_writes, streams.check_interruptions,
     memory.check_memory,
     heads.check_requests, heads.check_heads, heads.check_cuts, heads.check_hostile,

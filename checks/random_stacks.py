@@ -13,8 +13,10 @@ NAMES = [b"x-a", b"x-b", b"content-type", b"content-length", b"set-cookie", b"co
 VALUES = [b"1", b"5", b"\\e", b"a\\sb", b"close", b"text/plain", b"\\x31", b"\\x01"]
 PIECES = [b"a", b"\\e", b"bc", b"hello", b"!", b"\\x21", b"\\xFF\\n", b"\\\\", b"#"]
 # What a broken file has in the place of a good word, line or byte.
-WORDS = [b"use", b"run", b"map", b"end", b"cascade", b"head", b"echo", b"/a", b"a", b"\\q", b"\\", b"\\e", b"200", b"1000", b"take", b"rnu", b""]
-LINES = [b"use head", b"run echo", b"map /c", b"end", b"cascade", b"use", b"map c", b"run text 99 a b", b"end end", b"rnu", b"run take echo",
+WORDS = [b"use", b"run", b"map", b"end", b"cascade", b"head", b"echo", b"/a", b"a", b"\\q", b"\\", b"\\e", b"200",
+         b"1000", b"take", b"rnu", b""]
+LINES = [b"use head", b"run echo", b"map /c", b"end", b"cascade", b"use", b"map c", b"run text 99 a b", b"end end",
+         b"rnu", b"run take echo",
          b"use content_type a b", b"#", b"\t", b"# \x7f"]
 BYTES = [b"\t", b"\r", b"\0", b"\x7f", b"\xff", b"\n", b" ", b"\\", b"/", b"#", b"0"]
 
@@ -34,19 +36,23 @@ class Dice:
 
     def middleware(self):
         return self.one([
-            b"head", b"content_length", b"method_override", b"lint", b"content_type", b"content_type " + self.one(VALUES),
+            b"head", b"content_length", b"method_override", b"lint", b"content_type",
+            b"content_type " + self.one(VALUES),
             b"set_header " + self.one(NAMES) + b" " + self.one(VALUES), b"set_header x-a " + self.one(VALUES),
         ])
 
     def endpoint(self):
         status = self.one([b"200", b"404", b"405", b"404", b"204", b"0200", b"599", b"\\x32\\x30\\x30"])
         if self.chance(0.5):
-            return self.one([b"env", b"echo", b"text 200 text/plain " + self.one(PIECES), b"text 404 a/b " + self.one(PIECES)])
+            return self.one([b"env", b"echo", b"text 200 text/plain " + self.one(PIECES),
+                             b"text 404 a/b " + self.one(PIECES)])
         return b" ".join(self.one([
             [b"text", status, self.one([b"text/plain", b"\\e", b"a\\nb"]), self.one(PIECES)],
             [b"pieces", status, *self.some(PIECES, [0, 1, 3])], [b"stream", *self.some(PIECES, [0, 1, 3])],
-            [b"cookies", *self.some(VALUES, [1, 2])], [b"bad", *self.some([b"1", b"2", b"4", b"6", b"7", b"010"], [1, 2, 8])],
-            [b"raise", self.one(PIECES)], [b"late", self.one([b"0", b"1", b"005", b"3"]), *self.some(PIECES, [0, 1, 2])],
+            [b"cookies", *self.some(VALUES, [1, 2])], [b"bad",
+                                                       *self.some([b"1", b"2", b"4", b"6", b"7", b"010"], [1, 2, 8])],
+            [b"raise", self.one(PIECES)], [b"late", self.one([b"0", b"1", b"005", b"3"]),
+                                           *self.some(PIECES, [0, 1, 2])],
         ]))
 
     def block(self, depth):
@@ -99,7 +105,8 @@ class Dice:
         """The same line with more spaces."""
         if self.chance(0.7):
             return line
-        return self.one([b""] * 9 + [b"  "] * 9 + [b" " * 5000]) + re.sub(rb" ", lambda _: self.one([b" ", b"   "]), line) + self.one([b"", b" "])
+        return self.one([b""] * 9 + [b"  "] * 9 + [b" " * 5000]) + re.sub(rb" ", lambda _: self.one([b" ", b"   "]),
+                                                                          line) + self.one([b"", b" "])
 
     def target(self):
         path = b"".join(self.some([b"/a", b"/b", b"/", b"/ab", b"/c"], [1, 1, 2, 3, 4]))

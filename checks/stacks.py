@@ -1,4 +1,4 @@
-"""Stack files: which line is wrong and by which rule, and the written form, by `check`, and that `once` says the same."""
+"""Stack files, by `check`: which line is wrong and by which rule, and the written form. Also, that `once` reads alike."""
 
 from model import check, once
 from program import DIRECTLY, write
@@ -61,8 +61,10 @@ NAMES = [
     ("a middleware's name cut short", 1, b"use content\n"), ("a hyphen in its name", 1, b"use content-length\n"),
     ("an endpoint for a middleware", 1, b"use echo\n"), ("a middleware for an endpoint", 2, b"use head\nrun head\n"),
     ("an unknown endpoint", 1, b"run texts 200 text/plain hello\n"), ("a shorter name", 1, b"run ech\n"),
-    ("an endpoint with a capital", 1, b"run Echo\n"), ("an endpoint in capitals", 1, b"run TEXT 200 text/plain hello\n"),
-    ("an escaped name", 1, b"run \\x65cho\n"), ("an empty name", 1, b"run \\e\n"), ("a first word for a name", 1, b"run run\n"),
+    ("an endpoint with a capital", 1, b"run Echo\n"), ("an endpoint in capitals", 1,
+                                                       b"run TEXT 200 text/plain hello\n"),
+    ("an escaped name", 1, b"run \\x65cho\n"), ("an empty name", 1, b"run \\e\n"),
+    ("a first word for a name", 1, b"run run\n"),
     ("take", 1, b"run take echo\n"), ("take with an unknown name", 1, b"run take nothing\n"),
     ("part", 1, b"run part 200 upper\n"), ("part without arguments", 1, b"run part\n"),
     ("an unknown name with a bad pair", 1, b"run nothing \\q\n"),
@@ -82,12 +84,14 @@ COUNTS = [
     ("echo and a comment", 1, b"run echo # all\n"), ("env with an argument", 1, b"run env x\n"),
     ("env with an empty argument", 1, b"run env \\e\n"), ("text with none", 1, b"run text\n"),
     ("text with two", 1, b"run text 200 text/plain\n"), ("text with two and a space", 1, b"run text 200 text/plain \n"),
-    ("text with two and spaces", 1, b"run text 200  hello\n"), ("text with four", 1, b"run text 200 text/plain hello there\n"),
+    ("text with two and spaces", 1, b"run text 200  hello\n"),
+    ("text with four", 1, b"run text 200 text/plain hello there\n"),
     ("pieces without a status", 1, b"run pieces\n"), ("cookies without a value", 1, b"run cookies\n"),
     ("bad without a number", 1, b"run bad\n"), ("bad with nine numbers", 1, b"run bad 1 2 3 4 5 6 7 8 10\n"),
     ("raise without a text", 1, b"run raise\n"), ("raise with two texts", 1, b"run raise a b\n"),
     ("late without a length", 1, b"run late\n"),
-    ("too many arguments, none of its form", 1, b"run text x \\q y z\n"), ("a bad pair where none may be", 1, b"use head \\q\n"),
+    ("too many arguments, none of its form", 1, b"run text x \\q y z\n"),
+    ("a bad pair where none may be", 1, b"use head \\q\n"),
     ("two places that are none", 1, b"map a b\n"), ("map without a place within a cascade", 2, b"cascade\nmap\nend\n"),
     ("head with an argument within a cascade", 2, b"cascade\nuse head x\nend\n"),
     ("an argument at the step that is one too many", 257, b"use head\n" * 256 + b"run echo x\n"),
@@ -104,28 +108,37 @@ FORMS = [
     ("a bad pair in a body", 1, b"run text 200 text/plain hel\\qlo\n"),
     ("a pair with a capital", 1, b"run text 200 text/plain hel\\Slo\n"), ("a capital x", 1, b"run raise \\X41\n"),
     ("a backslash at the end", 1, b"run text 200 text/plain hello\\\n"), ("a backslash alone", 1, b"run raise \\\n"),
-    ("no digit", 1, b"run raise \\x\n"), ("one digit", 1, b"run raise \\x4\n"), ("a digit that is none", 1, b"run raise \\x4g\n"),
-    ("a bad pair among the pieces", 1, b"run pieces 200 a \\q b\n"), ("a bad pair in a status", 1, b"run text 2\\q0 a b\n"),
+    ("no digit", 1, b"run raise \\x\n"), ("one digit", 1, b"run raise \\x4\n"),
+    ("a digit that is none", 1, b"run raise \\x4g\n"),
+    ("a bad pair among the pieces", 1, b"run pieces 200 a \\q b\n"),
+    ("a bad pair in a status", 1, b"run text 2\\q0 a b\n"),
     ("a bad pair among the last", 1, b"run stream a b \\\n"), ("a bad pair in a cookie", 1, b"run cookies \\q\n"),
-    ("a status of 99", 1, b"run text 99 text/plain hello\n"), ("a status of 1000", 1, b"run text 1000 text/plain hello\n"),
-    ("a status of 0", 1, b"run text 0 text/plain hello\n"), ("a status with a sign", 1, b"run text +200 text/plain hello\n"),
-    ("a status in hexadecimal", 1, b"run text 0xc8 text/plain hello\n"), ("a status that is none", 1, b"run text ok a b\n"),
+    ("a status of 99", 1, b"run text 99 text/plain hello\n"),
+    ("a status of 1000", 1, b"run text 1000 text/plain hello\n"),
+    ("a status of 0", 1, b"run text 0 text/plain hello\n"), ("a status with a sign", 1,
+                                                             b"run text +200 text/plain hello\n"),
+    ("a status in hexadecimal", 1, b"run text 0xc8 text/plain hello\n"),
+    ("a status that is none", 1, b"run text ok a b\n"),
     ("an empty status", 1, b"run text \\e a b\n"), ("a status and a space", 1, b"run text 200\\s a b\n"),
     ("a status of 2^128 and 200", 1, b"run text 340282366920938463463374607431768211656 text/plain hello\n"),
-    ("a status of 2^32 and 200", 1, b"run text 4294967496 a b\n"), ("a status of 2^64 and 200", 1, b"run text 18446744073709551816 a b\n"),
-    ("pieces with a status of 99", 1, b"run pieces 99 a\n"), ("pieces with a status of 1000", 1, b"run pieces 1000 a\n"),
+    ("a status of 2^32 and 200", 1, b"run text 4294967496 a b\n"),
+    ("a status of 2^64 and 200", 1, b"run text 18446744073709551816 a b\n"),
+    ("pieces with a status of 99", 1, b"run pieces 99 a\n"),
+    ("pieces with a status of 1000", 1, b"run pieces 1000 a\n"),
     ("pieces that begin with no status", 1, b"run pieces a b\n"),
     *[(f"bad with {word}", 1, b"run bad " + word.encode() + b"\n")
       for word in ("0", "9", "11", "257", "266", "x", "\\e", "1,2", "-1", "1 9", "1 2 3 4 5 6 7 0")],
     ("late with a word for its length", 1, b"run late x\n"), ("late with a mark for its length", 1, b"run late !\n"),
-    ("late with a length above the most", 1, b"run late 1000001\n"), ("late with a negative length", 1, b"run late -1\n"),
+    ("late with a length above the most", 1, b"run late 1000001\n"),
+    ("late with a negative length", 1, b"run late -1\n"),
     ("late with an empty length", 1, b"run late \\e a\n"), ("late with a bad pair", 1, b"run late 5 a \\q\n"),
     ("late with a length of 2^64", 1, b"run late 18446744073709551616\n"),
     ("a bad status within a cascade", 3, b"cascade\nrun echo\nrun text 1 a b\nend\n"),
     ("a place that is none at a depth of 33", 33, b"map /a\n" * 32 + b"map a\n"),
 ]
 ENDS = [
-    ("end alone", 1, b"end\n"), ("end behind a run", 2, b"run echo\nend\n"), ("end without an application", 2, b"use head\nend\n"),
+    ("end alone", 1, b"end\n"), ("end behind a run", 2, b"run echo\nend\n"),
+    ("end without an application", 2, b"use head\nend\n"),
     ("one end too many", 4, b"map /a\nrun echo\nend\nend\n"), ("end behind a cascade", 3, b"cascade\nend\nend\n"),
     ("a map alone", 2, b"map /a\n"), ("a map alone without its LF", 2, b"map /a"),
     ("a map that isn't ended", 3, b"map /a\nrun echo\n"), ("the same without its last LF", 3, b"map /a\nrun echo"),
@@ -136,7 +149,8 @@ ENDS = [
     ("32 blocks that aren't ended", 33, b"map /a\n" * 32),
 ]
 CASCADES = [
-    ("use within a cascade", 2, b"cascade\nuse head\nend\n"), ("map within a cascade", 2, b"cascade\nmap /a\nend\nend\n"),
+    ("use within a cascade", 2, b"cascade\nuse head\nend\n"),
+    ("map within a cascade", 2, b"cascade\nmap /a\nend\nend\n"),
     ("a cascade within a cascade", 2, b"cascade\ncascade\nend\nend\n"),
     ("use behind runs, an empty line and a comment", 5, b"cascade\nrun echo\n\n# c\nuse head\nend\n"),
     ("use within a cascade within a map", 3, b"map /a\ncascade\nuse lint\nend\nend\n"),
@@ -146,11 +160,15 @@ CASCADES = [
 ]
 LACKING = [
     ("an empty file", 1, b""), ("an LF alone", 2, b"\n"), ("spaces alone", 2, b"  "), ("two LFs", 3, b"\n\n"),
-    ("a comment alone", 2, b"#\n"), ("a comment without an LF", 2, b"# c"), ("only comments and empty lines", 5, b"# a\n\n  # b\n \n"),
-    ("a middleware alone", 2, b"use head\n"), ("the same without an LF", 2, b"use head"), ("six middleware", 7, b"use head\n" * 6),
+    ("a comment alone", 2, b"#\n"), ("a comment without an LF", 2, b"# c"),
+    ("only comments and empty lines", 5, b"# a\n\n  # b\n \n"),
+    ("a middleware alone", 2, b"use head\n"), ("the same without an LF", 2, b"use head"),
+    ("six middleware", 7, b"use head\n" * 6),
     ("an empty block", 2, b"map /a\nend\n"), ("an empty block behind a comment", 3, b"# c\nmap /a\nend\n"),
-    ("a block of a middleware", 3, b"map /a\nuse head\nend\n"), ("an empty block within one", 3, b"map /a\nmap /b\nend\nend\n"),
-    ("the second of two blocks", 5, b"map /a\nrun echo\nend\nmap /b\nend\n"), ("the first of two", 2, b"map /a\nend\nmap /b\nend\n"),
+    ("a block of a middleware", 3, b"map /a\nuse head\nend\n"),
+    ("an empty block within one", 3, b"map /a\nmap /b\nend\nend\n"),
+    ("the second of two blocks", 5, b"map /a\nrun echo\nend\nmap /b\nend\n"),
+    ("the first of two", 2, b"map /a\nend\nmap /b\nend\n"),
     ("a block beside one that has one", 2, b"map /a\nend\nmap /b\nrun echo\nend\n"),
     ("a middleware behind blocks", 5, b"map /a\nrun echo\nend\nuse head\n"),
     ("an empty block in front of a middleware without one", 2, b"map /a\nend\nuse head\n"),
@@ -225,20 +243,25 @@ WRITTEN = [
     ("the longest line behind spaces", b" " * 4096 + LONGEST + b"\n", LONGEST + b"\n"),
     ("the longest comment", b"#" + b"c" * 4095 + b"\nrun echo\n", b"run echo\n"),
     ("spaces behind as long as may be", b"run echo" + b" " * 4088 + b"\n", b"run echo\n"),
-    *[(f"the place {place.decode()}", b"map " + place + b"\nrun echo\nend\n", b"map " + (form or place) + b"\n  run echo\nend\n")
+    *[(f"the place {place.decode()}", b"map " + place + b"\nrun echo\nend\n",
+       b"map " + (form or place) + b"\n  run echo\nend\n")
       for place, form in [(b"/", None), (b"//", None), (b"///", None), (b"/a", None), (b"/a/", b"/a"), (b"/a//", None),
-                          (b"/a/b/", b"/a/b"), (b"\\x2f", b"/"), (b"\\x2F\\x2f", b"//"), (b"/\\x2fa", b"//a"), (b"/\\x61\\x2f", b"/a"),
-                          (b"/\\s", None), (b"/a?b#c", None), (b"/\\x00\\xff\\n/", b"/\\x00\\xff\\n"), (b"/%2f", None), (b"/.", None)]],
+                          (b"/a/b/", b"/a/b"), (b"\\x2f", b"/"), (b"\\x2F\\x2f", b"//"), (b"/\\x2fa", b"//a"),
+                          (b"/\\x61\\x2f", b"/a"),
+                          (b"/\\s", None), (b"/a?b#c", None), (b"/\\x00\\xff\\n/", b"/\\x00\\xff\\n"), (b"/%2f", None),
+                          (b"/.", None)]],
     ("blocks within blocks", b"map /a\nmap /b/\nuse head\ncascade\nrun echo\n run env\nend\nend\nend\nrun env\n",
      b"map /a\n  map /b\n    use head\n    cascade\n      run echo\n      run env\n    end\n  end\nend\nrun env\n"),
-    ("an empty cascade", b"cascade\nend\n", None), ("runs that don't count", b"run echo\nrun env\ncascade\nend\nrun echo\n", None),
+    ("an empty cascade", b"cascade\nend\n", None), ("runs that don't count",
+                                                    b"run echo\nrun env\ncascade\nend\nrun echo\n", None),
     ("a block whose default comes later", b"map /a\nend\nrun echo\n", None),
     ("a block whose default is a cascade", b"map /a\nend\ncascade\nend\n", None),
     ("a block whose default is behind a middleware", b"map /a\nend\nuse head\nmap /b\n  run echo\nend\n", None),
     ("a block that has a block alone", b"map /a\n  map /b\n    run echo\n  end\nend\n", None),
     ("an inner block whose default is the outer block's", b"map /a\n  run echo\n  map /b\n  end\nend\n", None),
     ("an inner block whose default is the whole's", b"run echo\nmap /a\n  map /b\n  end\nend\n", None),
-    ("256 steps", MOST, None), ("256 runs", b"run echo\n" * 256, None), ("256 steps with a comment", b"#\n" + MOST, MOST),
+    ("256 steps", MOST, None), ("256 runs", b"run echo\n" * 256, None),
+    ("256 steps with a comment", b"#\n" + MOST, MOST),
     ("256 steps in a cascade", b"cascade\n" + b"  run echo\n" * 255 + b"end\n", None),
     ("256 steps in blocks", b"map /a\n  run echo\nend\n" * 128, None),
     ("a depth of 32", DEEPEST, b"".join(b"  " * i + b"map /a\n" for i in range(32)) + b"  " * 32 + b"run echo\n"
@@ -262,7 +285,8 @@ def check_written(checks):
     every = bytes(range(256))
     for name, text in [("all bytes", b"run raise " + escaped(every) + b"\n"),
                        ("all bytes as a place", b"map /" + escaped(every) + b"\n  run echo\nend\n"),
-                       ("all bytes as pieces", b"run stream " + b" ".join(escaped(bytes([byte])) for byte in every) + b"\n")]:
+                       ("all bytes as pieces",
+                        b"run stream " + b" ".join(escaped(bytes([byte])) for byte in every) + b"\n")]:
         checks.wants(name, served(text), "check", write("stack", text))
     digits = b"run stream " + b" ".join(b"\\x%02X" % byte for byte in every) + b"\n"
     checks.wants("all bytes by digits in capitals", served(text), "check", write("stack", digits))
@@ -273,11 +297,14 @@ def check_arguments(checks):
     checks.begin("arguments", DIRECTLY)
     for at in range(0, 256, 64):
         bodies = [(word, body) for byte in range(at, at + 64) for text in [bytes([byte])]
-                  for word, body in [(b"\\x%02x" % byte, text), (escaped(text), text), (b"a" + escaped(text) + b"b", b"a" + text + b"b")]]
+                  for word, body in [(b"\\x%02x" % byte, text), (escaped(text), text),
+                                     (b"a" + escaped(text) + b"b", b"a" + text + b"b")]]
         for some in (bodies[:100], bodies[100:]):
-            file = b"".join(b"map /%d\nrun text 200 text/plain %s\nend\n" % (i, word) for i, (word, _) in enumerate(some))
+            file = b"".join(b"map /%d\nrun text 200 text/plain %s\nend\n" % (i, word) for i,
+                            (word, _) in enumerate(some))
             asked = b"".join(b"GET /%d HTTP/1.1\r\nHost: a\r\n\r\n" % i for i in range(len(some)))
-            checks.wants(f"the bytes from {at} on", served(*[reply(body) for _, body in some]), "once", write("stack", file),
+            checks.wants(f"the bytes from {at} on", served(*[reply(body) for _, body in some]), "once",
+                         write("stack", file),
                          stdin=asked)
     for name, want, line in [
         ("the first and the last byte", reply(b"~", b"!"), b"200 ! ~"),
@@ -287,10 +314,12 @@ def check_arguments(checks):
         ("a body that is a comment's sign", reply(b"#"), b"200 text/plain #"),
         ("an empty body", reply(b""), b"200 text/plain \\e"), ("an empty type", reply(b"hello", b""), b"200 \\e hello"),
         ("a body of line ends", reply(b"\r\n\r\n"), b"200 text/plain \\r\\n\\r\\n"),
-        ("a backslash", reply(b"\\"), b"200 text/plain \\\\"), ("a backslash and a letter", reply(b"\\e"), b"200 text/plain \\\\e"),
+        ("a backslash", reply(b"\\"), b"200 text/plain \\\\"),
+        ("a backslash and a letter", reply(b"\\e"), b"200 text/plain \\\\e"),
         ("digits in capitals and in both", reply(b"\xab\xab"), b"200 text/plain \\xAB\\xAb"),
         ("letters that need no escape", reply(b"hello"), b"200 text/plain \\x68\\x65\\x6c\\x6C\\x6f"),
-        ("a type with a parameter", reply(b"hello", b"text/html; charset=utf-8"), b"200 text/html;\\scharset=utf-8 hello"),
+        ("a type with a parameter", reply(b"hello", b"text/html; charset=utf-8"),
+         b"200 text/html;\\scharset=utf-8 hello"),
         ("all bytes", reply(bytes(range(256))), b"200 text/plain " + escaped(bytes(range(256)))),
     ]:
         checks.wants(name, served(want), "once", write("stack", b"run text " + line + b"\n"), stdin=GET)

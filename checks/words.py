@@ -48,29 +48,40 @@ def check_words(checks):
     ]:
         checks.wants(name, USAGE, *words, stdin=GET)
     for words in [
-        ["--no-hijack"], ["--no-hijack", "hello.stack"], ["--no-hijack", "once", "hello.stack"], ["once", "--no-hijack"],
+        ["--no-hijack"], ["--no-hijack", "hello.stack"], ["--no-hijack", "once", "hello.stack"],
+        ["once", "--no-hijack"],
         ["once", "--no-hijack", "--no-hijack", "hello.stack"], ["once", "--no-hijack", "hello.stack", "--no-hijack"],
         ["once", "hello.stack", "--no-hijack", "--no-hijack"], ["once", "--no-hijack", "hello.stack", "hello.stack"],
         ["once", "hello.stack", "--no-hijack", "hello.stack"], ["once", "--no-hijack=true", "hello.stack"],
-        ["once", "--no-hijack=", "hello.stack"], ["once", "--no-hijack=hello.stack"], ["once", "--no-hij", "hello.stack"],
-        ["once", "--no-hijacks", "hello.stack"], ["once", "--No-Hijack", "hello.stack"], ["once", "--no_hijack", "hello.stack"],
+        ["once", "--no-hijack=", "hello.stack"], ["once", "--no-hijack=hello.stack"],
+        ["once", "--no-hij", "hello.stack"],
+        ["once", "--no-hijacks", "hello.stack"], ["once", "--No-Hijack", "hello.stack"],
+        ["once", "--no_hijack", "hello.stack"],
         ["once", "-no-hijack", "hello.stack"], ["once", "-n", "hello.stack"], ["once", "--hijack", "hello.stack"],
         ["once", "-s"], ["once", "-hello.stack"], ["once", "--hello.stack"], ["once", "---"], ["once", "-1"],
         ["once", "hello.stack", "-x"], ["once", "-x", "hello.stack"], ["once", "- ", "hello.stack"],
-        ["check", "--no-hijack", "hello.stack"], ["check", "hello.stack", "--no-hijack"], ["check", "-x"], ["check", "-n", "hello.stack"],
-        ["--"], ["--", "once", "hello.stack"], ["once", "--"], ["once", "--", "hello.stack", "hello.stack"], ["once", "--no-hijack", "--"],
-        ["once", "--", "hello.stack", "--no-hijack"], ["once", "hello.stack", "--", "--no-hijack"], ["once", "--", "--", "hello.stack"],
-        ["check", "--"], ["check", "--", "--no-hijack", "hello.stack"], ["-"], ["-", "hello.stack"], ["-x", "once", "hello.stack"],
+        ["check", "--no-hijack", "hello.stack"], ["check", "hello.stack", "--no-hijack"], ["check", "-x"],
+        ["check", "-n", "hello.stack"],
+        ["--"], ["--", "once", "hello.stack"], ["once", "--"], ["once", "--", "hello.stack", "hello.stack"],
+        ["once", "--no-hijack", "--"],
+        ["once", "--", "hello.stack", "--no-hijack"], ["once", "hello.stack", "--", "--no-hijack"],
+        ["once", "--", "--", "hello.stack"],
+        ["check", "--"], ["check", "--", "--no-hijack", "hello.stack"], ["-"], ["-", "hello.stack"],
+        ["-x", "once", "hello.stack"],
         # Help is asked for alone, or behind a command's name alone.
-        ["--helps"], ["--hel"], ["-help"], ["-hV"], ["-v"], ["version"], ["Help"], ["--HELP"], ["--help="], ["--help", "once"],
-        ["help", "once"], ["help", "help"], ["-h", "-h"], ["--version", "--help"], ["twice", "--help"], ["once", "--help", "hello.stack"],
-        ["once", "hello.stack", "--help"], ["once", "help", "hello.stack"], ["check", "-V", "hello.stack"], ["--", "--help"],
+        ["--helps"], ["--hel"], ["-help"], ["-hV"], ["-v"], ["version"], ["Help"], ["--HELP"], ["--help="],
+        ["--help", "once"],
+        ["help", "once"], ["help", "help"], ["-h", "-h"], ["--version", "--help"], ["twice", "--help"],
+        ["once", "--help", "hello.stack"],
+        ["once", "hello.stack", "--help"], ["once", "help", "hello.stack"], ["check", "-V", "hello.stack"],
+        ["--", "--help"],
         ["once", "--no-hijack", "--help"], ["", "--help"],
     ]:
         checks.wants(f"the words {' '.join(words)}", USAGE, *words, stdin=GET)
     # Whatever the program is called, its own name is no word.
     for name in ["once", "puma", "", "a name", b"\xff", "hello.stack"]:
-        for want, words in [(ANSWERED, ["once", "hello.stack"]), (USAGE, ["hello.stack"]), (USAGE, ["once"]), (USAGE, [])]:
+        for want, words in [(ANSWERED, ["once", "hello.stack"]), (USAGE, ["hello.stack"]), (USAGE, ["once"]),
+                            (USAGE, [])]:
             checks.wants(f"called {name!r}, {words}", want, *words, stdin=GET, program=(name,), executable=PROGRAM)
 
 
@@ -85,14 +96,17 @@ def check_options(checks):
     write("env.stack", env)
     kept, told = once(env, asked), once(env, asked, hijack=False)
     checks.counts("what the application is told, by hand", [1, 0, 0, 1],
-                  [said[1].count(b"\nrack.hijack?=" + word + b"\n") for said in (kept, told) for word in (b"true", b"false")])
+                  [said[1].count(b"\nrack.hijack?=" + word + b"\n") for said in (kept, told) for word in (b"true",
+                                                                                                          b"false")])
     for want, words in [
         (kept, ["env.stack"]), (kept, ["--", "env.stack"]), (kept, ["env.stack", "--"]),
-        (told, ["--no-hijack", "env.stack"]), (told, ["env.stack", "--no-hijack"]), (told, ["--no-hijack", "--", "env.stack"]),
+        (told, ["--no-hijack", "env.stack"]), (told, ["env.stack", "--no-hijack"]),
+        (told, ["--no-hijack", "--", "env.stack"]),
         (told, ["--no-hijack", "env.stack", "--"]), (told, ["env.stack", "--no-hijack", "--"]),
         (kept, ["-"]), (told, ["-", "--no-hijack"]), (told, ["--no-hijack", "-"]),
         (kept, ["--", "--no-hijack"]), (told, ["--no-hijack", "--", "--no-hijack"]),
-        (told, ["--no-hijack", "help"]), (kept, ["--", "help"]), (kept, ["./help"]), (kept, ["./--no-hijack"]), (told, ["./-s", "--no-hijack"]),
+        (told, ["--no-hijack", "help"]), (kept, ["--", "help"]), (kept, ["./help"]), (kept, ["./--no-hijack"]),
+        (told, ["./-s", "--no-hijack"]),
         (kept, ["once"]), (kept, ["check"]),
     ]:
         checks.wants(f"once {' '.join(words)}", want, "once", *words, stdin=asked)
@@ -114,7 +128,8 @@ def check_options(checks):
 def check_help(checks):
     """What the program says of itself: standard output, status 0, and nothing on standard error."""
     checks.begin("help")
-    for asks, parts in [(ASKS_HELP, [b"puma once", b"puma check", b"--no-hijack", b"STACK", b"docs/"]), (ASKS_VERSION, [b"puma"])]:
+    for asks, parts in [(ASKS_HELP, [b"puma once", b"puma check", b"--no-hijack", b"STACK", b"docs/"]),
+                        (ASKS_VERSION, [b"puma"])]:
         first = run([asks[0]]) or NOTHING
         checks.counts(f"{asks[0]} ends in a line", (True, True), (first[1].endswith(b"\n"), first[1].isascii()))
         checks.counts(f"{asks[0]}, what isn't in it", [], [part for part in parts if part not in first[1]])
@@ -208,8 +223,10 @@ def check_closed_files(checks):
     try:
         checks.wants("this user may read others", ANSWERED, "once", "hello.stack", stdin=GET, **how)
         checks.wants("a file that may not be read", UNREADABLE, "once", "secret", stdin=GET, **how)
-        checks.wants("a file in a folder that may not be entered", UNREADABLE, "once", "closed/hello.stack", stdin=GET, **how)
-        checks.wants("no such file in a folder that may not be entered", UNREADABLE, "once", "closed/nofile", stdin=GET, **how)
+        checks.wants("a file in a folder that may not be entered", UNREADABLE, "once", "closed/hello.stack", stdin=GET,
+                     **how)
+        checks.wants("no such file in a folder that may not be entered", UNREADABLE, "once", "closed/nofile", stdin=GET,
+                     **how)
     except (PermissionError, subprocess.SubprocessError) as e:
         checks.pass_over("files that may not be read", f"no other user can be tried here ({e})")
     os.chmod("closed", 0o700)
