@@ -21,7 +21,8 @@ def at(place, *lines):
 
 
 def says(*lines):
-    return b"".join((b"run text 200 text/plain " if line.isalnum() else b"") + line.rstrip(b"\n") + b"\n" for line in lines)
+    spelled = (b"run text 200 text/plain " + line if line.isalnum() else line.rstrip(b"\n") for line in lines)
+    return b"".join(line + b"\n" for line in spelled)
 
 
 def lost(path):
@@ -123,7 +124,8 @@ def check_rows(checks):
         ("a content type at 204", b"run bad 6\n", GET,
          b"HTTP/1.1 500 Internal Server Error\r\nx-puma-fault: L6\r\ncontent-length: 0\r\n\r\n"),
         ("a place that ends inside a segment", place, ask(b"/foobar"),
-         b"HTTP/1.1 404 Not Found\r\ncontent-type: text/plain\r\nx-cascade: pass\r\ncontent-length: 18\r\n\r\nNot Found: /foobar"),
+         b"HTTP/1.1 404 Not Found\r\ncontent-type: text/plain\r\nx-cascade: pass\r\ncontent-length: 18\r\n\r\n"
+         + b"Not Found: /foobar"),
         ("a place", place, ask(b"/foo"), plain + b"content-length: 3\r\n\r\nfoo"),
         ("a place and a slash", place, ask(b"/foo/"), plain + b"content-length: 3\r\n\r\nfoo"),
         ("a place within a place", places, ask(b"/a/b"), plain + b"content-length: 1\r\n\r\nb"),

@@ -1,4 +1,4 @@
-"""Stack files, by `check`: which line is wrong and by which rule, and the written form. Also, that `once` reads alike."""
+"""Stack files: by `check` which line is wrong and by which rule, and the written form; and that `once` reads alike."""
 
 from model import check, once
 from program import DIRECTLY, write
