@@ -10,7 +10,7 @@ import time
 from model import once, replies
 from program import DIRECTLY, PUMA, SECONDS, Cut, write
 from wanted import (ANSWERED, CLOSE, CLOSED, CLOSING, CODED, ECHO, GET, HEAD, HEAD_ONLY, HELLO, KEEP, LENGTH, NOTHING, OLD,
-                    OLD_KEPT, REQUEST_LIMIT, TWICE, post, refusal, refused, reply, served)
+                    OLD_KEPT, REQUEST_LIMIT, TWICE, post, refusal, reply, served)
 
 CURL = b"GET /index.html?x=1 HTTP/1.1\r\nHost: localhost:9292\r\nUser-Agent: curl/8.5.0\r\nAccept: */*\r\n\r\n"
 FIVE = post([LENGTH + b"5"], b"hello")

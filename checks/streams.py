@@ -317,9 +317,26 @@ def check_interruptions(checks):
         with open("trace", "rb") as trace:
             checks.counts(f"{name}, how many", count, trace.read().count(b"(INJECTED)"))
     if can:
+        check_interrupted_check(checks, stack)
         check_failed_midway(checks)
     else:
         checks.pass_over("a write that fails midway", "strace is missing or may not be used")
+
+
+def check_interrupted_check(checks, stack):
+    """The same of `check`, which reads no input."""
+    for name, want, count, which in [
+        ("interrupted reads", (0, HELLO, b""), 3, [*stack, "-e", "inject=read:error=EINTR:when=1..3"]),
+        ("interrupted writes", (0, HELLO, b""), 3, ["-e", "inject=write:error=EINTR:when=1..3"]),
+        ("a first read that fails", UNREADABLE, 1, [*stack, "-e", "inject=read:error=EIO:when=1"]),
+        ("a first write that fails", WRITE_FAILED, 1, ["-e", "inject=write:error=EIO:when=1"]),
+        ("a first write that would wait", WRITE_FAILED, 1, ["-e", "inject=write:error=EAGAIN:when=1"]),
+        ("a first write that takes nothing", WRITE_FAILED, 1, ["-e", "inject=write:retval=0:when=1"]),
+    ]:
+        program = ["strace", "-o", "trace", *which, PROGRAM]
+        checks.wants(f"check, {name}", want, "check", "hello.stack", program=program)
+        with open("trace", "rb") as trace:
+            checks.counts(f"check, {name}, how many", count, trace.read().count(b"(INJECTED)"))
 
 
 def check_failed_midway(checks):

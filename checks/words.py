@@ -6,9 +6,9 @@ import threading
 import time
 
 from model import once
-from program import PROGRAM, run, write
-from wanted import (ABSENT, ANSWERED, ECHO, FILE_LIMIT, GET, HELLO, LENGTH, LONG, NOTHING, UNREADABLE, USAGE, bad_stack,
-                    post, reply, served)
+from program import PROGRAM, PUMA, run, write
+from wanted import (ABSENT, ANSWERED, ECHO, FILE_LIMIT, GET, HELLO, LENGTH, LONG, NOTHING, UNREADABLE, USAGE,
+                    WRITE_FAILED, bad_stack, post, reply, served)
 
 NOBODY = 65534
 COMMANDS = ["once", "check"]
@@ -140,6 +140,13 @@ def check_help(checks):
                 status, text, errors = run([command, word], stdin="/") or (None, b"", b"")
                 named = command.encode() in text or asks is ASKS_VERSION
                 checks.counts(f"{command} {word}", (0, True, True, b""), (status, named, b"puma" in text, errors))
+    for word in [*ASKS_HELP, *ASKS_VERSION]:
+        closed = ("sh", "-c", 'exec "$@" >&-', "sh", PUMA)
+        checks.wants(word + " with output that is closed", WRITE_FAILED, word, program=closed)
+        reader, writer = os.pipe()
+        os.close(reader)
+        checks.wants(word + " into a pipe whose reader is gone", WRITE_FAILED, "once", word, stdout=writer)
+        os.close(writer)
     text = (run(["--help"]) or NOTHING)[1].decode("ascii", "replace")
     checks.counts("each exit status is told", [], [n for n in "01234679" if f"  {n}  " not in text])
     checks.counts("how wide it is", True, 0 < max(map(len, text.split("\n"))) < 80)
