@@ -88,6 +88,14 @@ def head_fault(method, target, version, fields):
     return None
 
 
+def is_utf8(text):
+    try:
+        text.decode()
+    except UnicodeDecodeError:
+        return False
+    return True
+
+
 def head_end(text):
     """Where the first head text ends: behind the first blank line that isn't at the front."""
     at = 0
@@ -111,8 +119,8 @@ def stands(text):
     head = re.sub(rb"\A(?:\r?\n)+", b"", text[:end])
     if head.count(b"\n") - 2 > LINE_LIMIT:
         return "F2"
-    line = re.match(rb"(" + TOKEN + rb") ([!-~]+) (HTTP/1\.[01])\r?\n", head)
-    if line is None or re.fullmatch(rb"(?:" + FIELD + rb")*\r?\n", head[line.end():]) is None:
+    line = re.match(rb"(" + TOKEN + rb") ([!-~\x80-\xff]+) (HTTP/1\.[01])\r?\n", head)
+    if line is None or not is_utf8(line[2]) or re.fullmatch(rb"(?:" + FIELD + rb")*\r?\n", head[line.end():]) is None:
         return "F3"
     fields = [(m[1], m[2].strip(b" \t")) for m in re.finditer(FIELD, head[line.end():])]
     fault = head_fault(*line.groups(), fields)
@@ -179,7 +187,8 @@ def pairs(request, hijack):
         name = re.match(NAME, host)[0]
         port = b"%d" % int(host[len(name) + 1:] or b"80")
     found = [
-        (b"REQUEST_METHOD", request.method), (b"SCRIPT_NAME", b""), (b"PATH_INFO", path if path or authority is None else b"/"),
+        (b"REQUEST_METHOD", request.method), (b"SCRIPT_NAME", b""),
+        (b"PATH_INFO", path if path or authority is None else b"/"),
         (b"QUERY_STRING", query), (b"SERVER_NAME", name), (b"SERVER_PORT", port), (b"SERVER_PROTOCOL", request.version),
         (b"REMOTE_ADDR", b"127.0.0.1"), (b"rack.url_scheme", b"http"), (b"rack.errors", b"discard"),
         (b"rack.hijack?", b"true" if hijack else b"false"),
