@@ -15,7 +15,7 @@ use Rattle.stack_file.specs.Canon.{canonical}
 use Rattle.puma_top.specs.Stack.{stack_limit}
 use Rattle.puma_top.specs.Seen.{FileReads, FilesSeen, SinkSeen, Seen}
 use Rattle.puma_top.specs.OnceSteps.{Serves}
-use Rattle.puma_top.specs.Status.{UnlessNoMemory, OnUsage}
+use Rattle.puma_top.specs.Status.{UnlessNoMemory}
 use Rattle.puma_top.specs.Quiet.{ReadOnce, NotRead, IsBadStack, IsGoodStack, HasRead, OnceDid, CheckDid, Did, file_of, IsReady, NoFault, Ran}
 use Rattle.puma_top.specs.QuietSteps.{OpensSteps, Prints}
 use Rattle.puma_top.specs.declared.status.FileWhy.{FileWhy}
@@ -166,25 +166,10 @@ check_bad status.SinkFault file old new sink then did name text line rule noted 
     absurd (no_steps old new name text line rule noted bad file did.1.part.steps did.1.part.read)
 check_bad status.TooLong file old new sink then did name text line rule noted bad = absurd did
 
--- a fact that follows, unless memory was refused
-pub unless : (P Q : Type 0) (s : Status) → (s ≢ status.NoMemory → P → Q) → UnlessNoMemory s P → UnlessNoMemory s Q
-unless P Q status.Done then h = then (λ e. cc) h
-unless P Q status.NoMemory then h = tt
-unless P Q status.Usage then h = then (λ e. cc) h
-unless P Q (status.File y) then h = then (λ e. cc) h
-unless P Q (status.Stack line rule) then h = then (λ e. cc) h
-unless P Q status.SourceFault then h = then (λ e. cc) h
-unless P Q status.SinkFault then h = then (λ e. cc) h
-unless P Q status.TooLong then h = then (λ e. cc) h
-
-at_usage : (P : Type 0) (s : Status) → s ≡ status.Usage → OnUsage s P → P
-at_usage P s is h = subst (λ (x : Status). OnUsage x P) is h
-
-bad_stack : (s : Status) (command : Option Command) (old new : Seen) → Did s command old new → OnUsage s (new.files.texts ≡ old.files.texts)
+bad_stack : (s : Status) (command : Option Command) (old new : Seen) → Did s command old new → (command ≡ None → new.files.texts ≡ old.files.texts)
     → (name text : List ℕ) (line rule : ℕ) → Noted old.files new.files name text → IsBadAt text line rule → UnlessNoMemory s (s ≡ status.Stack line rule)
 bad_stack s None old new did same name text line rule noted bad =
-    unless (s ≡ status.Usage) (s ≡ status.Stack line rule) s
-    (λ fine is. absurd (nothing_noted old.files new.files name text (at_usage (new.files.texts ≡ old.files.texts) s is same) noted)) did
+    absurd (nothing_noted old.files new.files name text (same refl) noted)
 bad_stack s (Some (once hijack file)) old new did same name text line rule noted bad =
     once_bad s hijack file old new did name text line rule noted bad
 bad_stack s (Some (check file)) old new did same name text line rule noted bad =
@@ -251,7 +236,7 @@ complete s command old new did (check file) is ready calm =
     check_complete s file old new (subst (λ (c : Option Command). Did s c old new) is did).0 ready calm
 
 -- a command that did this ran so
-pub ran : (s : Status) (command : Option Command) (old new : Seen) → Did s command old new → OnUsage s (new.files.texts ≡ old.files.texts)
+pub ran : (s : Status) (command : Option Command) (old new : Seen) → Did s command old new → (command ≡ None → new.files.texts ≡ old.files.texts)
     → new.source.input ≡ old.source.input
     → (IsPrefix old.source.given old.source.input → IsPrefix new.source.given new.source.input)
     → Ran command s old new
@@ -263,14 +248,3 @@ ran s command old new did untouched same prefix = record {
   same = same;
   prefix = prefix;
 }
-
--- a fact that follows from another, where the words are no command
-pub on_usage : (P Q : Type 0) (s : Status) → (P → Q) → OnUsage s P → OnUsage s Q
-on_usage P Q status.Done then h = tt
-on_usage P Q status.NoMemory then h = tt
-on_usage P Q status.Usage then h = then h
-on_usage P Q (status.File y) then h = tt
-on_usage P Q (status.Stack line rule) then h = tt
-on_usage P Q status.SourceFault then h = tt
-on_usage P Q status.SinkFault then h = tt
-on_usage P Q status.TooLong then h = tt

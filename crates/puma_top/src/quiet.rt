@@ -1,10 +1,10 @@
 // The commands that wait for nobody.
-ghost use Rattle.std.specs.Prelude.{◌≡◌, ◌≢◌, [], map, string_bytes};
+ghost use Rattle.std.specs.Prelude.{◌≡◌, ◌≢◌, ℕ, List, [], None, Some, map, string_bytes};
 ghost use Rattle.rack_outside.specs.Link.{Tells};
 ghost use Rattle.rack_outside.specs.Source.{IsPrefix};
 ghost use Rattle.puma_top.specs.Seen.{seen, sink_seen};
-ghost use Rattle.puma_words.specs.Words.{command_of};
-ghost use Rattle.puma_top.specs.Status.{OnUsage, OnUnread};
+ghost use Rattle.puma_words.specs.Words.{check, command_of};
+ghost use Rattle.puma_top.specs.Status.{OnUnread};
 ghost use Rattle.puma_top.specs.Quiet.{Ran, Did, OnceDid, CheckDid};
 ghost use Rattle.puma_top.specs.QuietSteps.{files_seen};
 
@@ -38,7 +38,8 @@ pub fn run_quiet<F: Files, S: Source, K: Sink>(
     requires written { Tells (K.written out.old) [] }
     ensures ran { let shown = seen F.holds F.texts F.faults S.input S.given S.faults K.written K.faults in
         Ran (command_of (map string_bytes words.now)) result (shown files.old src.old out.old) (shown files.new src.new out.new) }
-    ensures unasked { OnUsage result (files.new ≡ files.old) }
+    ensures unasked { command_of (map string_bytes words.now) ≡ None → (files.new ≡ files.old) × ((src.new ≡ src.old) × (out.new ≡ out.old)) }
+    ensures apart { (name : List ℕ) → command_of (map string_bytes words.now) ≡ Some (check name) → src.new ≡ src.old }
     ensures unread { OnUnread result ((src.new ≡ src.old) × (out.new ≡ out.old)) }
 {
     run_command(alloc, words, files, src, out)
@@ -58,7 +59,8 @@ fn run_command<F: Files, S: Source, K: Sink>(
         Did result (command_of (map string_bytes words.now)) (shown files.old src.old out.old) (shown files.new src.new out.new) }
     ensures same { S.input src.new ≡ S.input src.old }
     ensures prefix { IsPrefix (S.given src.old) (S.input src.old) → IsPrefix (S.given src.new) (S.input src.new) }
-    ensures unasked { OnUsage result (files.new ≡ files.old) }
+    ensures unasked { command_of (map string_bytes words.now) ≡ None → (files.new ≡ files.old) × ((src.new ≡ src.old) × (out.new ≡ out.old)) }
+    ensures apart { (name : List ℕ) → command_of (map string_bytes words.now) ≡ Some (check name) → src.new ≡ src.old }
     ensures unread { OnUnread result ((src.new ≡ src.old) × (out.new ≡ out.old)) }
 {
     match command_of(alloc, words) {

@@ -64,6 +64,8 @@ pub(crate) fn runner_of(alloc: Global, steps: Steps<App>) -> Result<StackRunner<
     match to_app(alloc, steps) {
         Ok(stack) => Ok(StackRunner::new(Arc::new(alloc, stack)?)),
         Err(BuildFault::NoMemory) => Err(AllocError),
-        Err(_) => unreachable!(),
+        Err(BuildFault::TooMany) => unreachable!(),
+        Err(BuildFault::TooDeep) => unreachable!(),
+        Err(BuildFault::NoRun) => unreachable!(),
     }
 }

@@ -5,8 +5,13 @@ use Rattle.conn_core.specs.declared.state.State.TheVariants as state
 use Rattle.conn_core.proofs.CallerLemmas.{ends_at, part_at}
 use Rattle.puma_top.specs.Once.{once_peer, once_local, stacks_of, most_taken}
 use Rattle.puma_top.specs.OnceSteps.{site_of}
+use Rattle.builder_core.specs.Nodes.{tree_of}
+use Rattle.puma_top.proofs.HandsLemmas.{stack_hands_to_nobody}
 use Rattle.puma_top.proofs.ServeLemmas.{start_is, some_at, talk_ends, talk_long}
 use Rattle.puma_top.proofs.once.talk.Goals as goal
+
+pub drive-requires-clause-untaken : goal.drive-requires-clause-untaken
+drive-requires-clause-untaken g c = λ r ps input. stack_hands_to_nobody (tree_of r.stack) ps input
 
 pub returns-then-is_over-clause-serves : goal.returns-then-is_over-clause-serves
 returns-then-is_over-clause-serves g c =
