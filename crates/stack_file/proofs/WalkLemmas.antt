@@ -138,7 +138,7 @@ runs_lead [] done m rest n steps outer h says few deep =
       line = n;
       ends = [];
       leads = ap (λ k. reads_on (lines rest) n (record { steps = k; inner = InCascade done; outer = outer })) zero_more
-      ∙ ap (λ as. reads_on (lines rest) n (record { steps = steps + 0; inner = InCascade as; outer = outer })) (sym (append-nil done));
+      ∙ ap (λ more. reads_on (lines rest) n (record { steps = steps + 0; inner = InCascade more; outer = outer })) (sym (append-nil done));
     }
 runs_lead (a ∷ apps) done m rest n steps outer h says few deep =
     let more = runs_lead apps (done ++ a ∷ []) m rest (n + 1) (steps + 1) outer h says.1 (omega (arith, few)) deep in
@@ -151,7 +151,7 @@ runs_lead (a ∷ apps) done m rest n steps outer h says few deep =
       ∙ line_read m (run_text a) (run_lines apps m ++ rest) (RunLine a) n (record { steps = steps; inner = InCascade done; outer = outer }) next h says.0 (λ e. cc e) (counted_fits steps (InCascade (done ++ a ∷ [])) outer (omega (arith, few)) deep)
       ∙ more.leads
       ∙ ap (λ k. reads_on (lines rest) more.line (record { steps = k; inner = InCascade ((done ++ a ∷ []) ++ apps); outer = outer })) count
-      ∙ ap (λ as. reads_on (lines rest) more.line (record { steps = steps + suc (length apps); inner = InCascade as; outer = outer })) (append_assoc done (a ∷ []) apps);
+      ∙ ap (λ both. reads_on (lines rest) more.line (record { steps = steps + suc (length apps); inner = InCascade both; outer = outer })) (append_assoc done (a ∷ []) apps);
     }
 
 abbrev ItemLeads : Item App → Type 0
