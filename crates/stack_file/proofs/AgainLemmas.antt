@@ -3,6 +3,7 @@ use Rattle.std.proofs.Common.{◌≡◌, ℕ, ◌+◌, Bool, true, false, List, 
 use Rattle.std.specs.Prelude.{◌&&◌, nat_le, if◌then◌else◌, ⊤}
 use Rattle.builder_core.specs.Plan.{Plan, Item, Done, Then, Uses, Holds, EndsAny, plan_of_items}
 use Rattle.builder_core.specs.Plan as plans
+use Rattle.rack_text.specs.Escaped as spelling
 use Rattle.stock_apps.specs.declared.app.App.{App}
 use Rattle.stock_middleware.specs.declared.ware.Ware.{Ware}
 use Rattle.stack_file.specs.Canon.{canonical}
@@ -119,7 +120,7 @@ reads_said g (l ∷ ls) n q s h k e =
     goes_said n (reads_on ls (n + 1)) q (reads_said g ls (n + 1) q) (stepped n (said l) s) (step_said n (said l) s (written_said g l (said l) refl) h k) e
 
 root_said : said (map_text []) ≡ MapLine []
-unfolding verb_line
+unfolding verb_line spelling.escaped spelling.spelling spelling.spelled
 root_said = refl
 
 pub read_again : SaysAgain → (text : List ℕ) (p : Plan App) → reads text ≡ Ok p → reads (canonical p) ≡ Ok p
