@@ -6,7 +6,8 @@ use Rattle.std.specs.Int.{is_in_range}
 use Rattle.std.specs.Fmt.{digit_glyph}
 use Rattle.std.specs.List.{list_all, flat_map}
 use Rattle.std.specs.Str.Parse.{AllDigits}
-use Rattle.std.proofs.lemmas.Bool.{leb-true, eqb-true, cases_Bool, le-ltb, lt-ltb}
+use Rattle.std.proofs.lemmas.Bool.{leb-true, eqb-true, cases_Bool, le-ltb, lt-ltb, le-leb, ne_eqb}
+use Rattle.std.proofs.lemmas.Slice.Eq.{bytes_eq-Decides}
 use Rattle.std.proofs.lemmas.Fmt.{decimal_is_IsNumeral_wide, length-decimal-le_wide}
 use Rattle.std.proofs.lemmas.Int.Digits.{digits_value-lt}
 use Rattle.std.proofs.lemmas.List.Elements.{All-cons}
@@ -120,6 +121,7 @@ pub record Short (n : ℕ) (read : List ℕ) : Type 0 where
   pub size : length (flat_map text.spelling read) ≤ n
   pub count : length read ≤ n
   pub bytes : AllBytes read
+  pub some : 0 < n → 0 < length read
 
 one_more : (k n b : ℕ) (read : List ℕ) → 1 ≤ k → length (text.spelling b) ≤ k → b < 256 → Short n read → Short (k + n) (b ∷ read)
 one_more k n b read some h small s =
@@ -129,6 +131,7 @@ one_more k n b read some h small s =
       size = omega (arith, h, size, length-append (text.spelling b) (flat_map text.spelling read));
       count = omega (arith, count, some);
       bytes = (small, s.bytes);
+      some = λ h. omega arith;
     }
 
 pub record FirstRead (o : Option ℕ) (r : Option (List ℕ)) (read : List ℕ) : Type 0 where
@@ -193,14 +196,11 @@ hex_first high low b e = by_digits (is_ascii_hexdigit high && is_ascii_hexdigit 
         (spelling_size b, omega (arith, h, l, same))
     by_digits false is f = cc f
 
-more_short : (n m : ℕ) (read : List ℕ) → n ≤ m → Short n read → Short m read
-more_short n m read h s =
-    let size = s.size in
-    let count = s.count in
-    record { size = omega (arith, size, h); count = omega (arith, count, h); bytes = s.bytes }
+more_short : (n m : ℕ) (read : List ℕ) → n ≡ m → Short n read → Short m read
+more_short n m read h s = subst (λ (k : ℕ). Short k read) h s
 
-nothing_short : (n : ℕ) (read : List ℕ) → Some [] ≡ Some read → Short n read
-nothing_short n read e = let same : [] ≡ read = cc e in subst (λ (x : List ℕ). Short n x) same (record { size = omega arith; count = omega arith; bytes = tt })
+nothing_short : (read : List ℕ) → Some [] ≡ Some read → Short 0 read
+nothing_short read e = let same : [] ≡ read = cc e in subst (λ (x : List ℕ). Short 0 x) same (record { size = omega arith; count = omega arith; bytes = tt; some = λ h. absurd (omega (arith, h)) })
 
 next_short : (slash : Bool) (b : ℕ) (rest read : List ℕ) → ((u : List ℕ) → text.spelled rest ≡ Some u → Short (length rest) u) → ((u : List ℕ) → text.spelled_behind rest ≡ Some u → Short (suc (length rest)) u)
     → (if slash then text.spelled_behind rest else before (plain_byte b) (text.spelled rest)) ≡ Some read → Short (suc (length rest)) read
@@ -218,7 +218,7 @@ hex_short high low rest read f e = more_short (4 + length rest) (suc (suc (suc (
 mutual
   unfolding text.spelled
   spelled_short : (word read : List ℕ) → text.spelled word ≡ Some read → Short (length word) read
-  spelled_short [] read e = nothing_short 0 read e
+  spelled_short [] read e = nothing_short read e
   spelled_short (b ∷ rest) read e = next_short (b == 92) b rest read (spelled_short rest) (spelled_behind_short rest) e
 
   spelled_behind_short : (word read : List ℕ) → text.spelled_behind word ≡ Some read → Short (suc (length word)) read
@@ -231,18 +231,111 @@ mutual
   spelled_hex_short (high ∷ low ∷ rest) read e = hex_short high low rest read (spelled_short rest) e
 
 -- what is written of a text is no longer than the word that it was read from
-pub escaped_short : (word read : List ℕ) → unescaped word ≡ Some read → 0 < length word → (length (text.escaped read) ≤ length word) × AllBytes read
+written_short : (n : ℕ) (read : List ℕ) → 0 < n → Short n read → length (text.escaped read) ≤ n
 unfolding text.escaped
-escaped_short word read e some = by_empty (bytes_eq word (codes "\\e")) refl e
+written_short n [] more s = absurd (omega (arith, s.some more))
+written_short n (b ∷ read) more s = s.size
+
+pub record IsShort (word read : List ℕ) : Type 0 where
+  pub size : length (text.escaped read) ≤ length word
+  pub count : length read ≤ length word
+  pub bytes : AllBytes read
+
+empty_short : IsShort (codes "\\e") []
+unfolding text.escaped
+empty_short = record { size = omega arith; count = omega arith; bytes = tt }
+
+some_short : (word read : List ℕ) → spelled_some word ≡ Some read → IsShort word read
+some_short [] read e = cc e
+some_short (b ∷ rest) read e =
+    let s = spelled_short (b ∷ rest) read e in
+    record { size = written_short (suc (length rest)) read (omega arith) s; count = s.count; bytes = s.bytes }
+
+pub escaped_short : (word read : List ℕ) → unescaped word ≡ Some read → IsShort word read
+escaped_short word read e = by_empty (bytes_eq word (codes "\\e")) refl e
   where
-    unread : (u : List ℕ) → Short (length word) u → 2 ≤ length word ⊎ (0 < length u) → (length (text.escaped u) ≤ length word) × AllBytes u
-    unread [] s (inl long) = (long, tt)
-    unread [] s (inr more) = absurd (omega (arith, more))
-    unread (b ∷ u) s h = (s.size, s.bytes)
+    by_empty : (c : Bool) → bytes_eq word (codes "\\e") ≡ c → (if c then Some [] else spelled_some word) ≡ Some read → IsShort word read
+    by_empty true is f =
+        let whole : word ≡ codes "\\e" = (bytes_eq-Decides word (codes "\\e")).0 is in
+        let none : [] ≡ read = cc f in
+        subst (λ (w : List ℕ). IsShort w read) (sym whole) (subst (λ (r : List ℕ). IsShort (codes "\\e") r) none empty_short)
+    by_empty false is f = some_short word read f
 
-    nonempty : (w u : List ℕ) → spelled_some w ≡ Some u → 0 < length u
-    nonempty w u f = ?
+spellings_visible : (read : List ℕ) → AllBytes read → AllVisible (flat_map text.spelling read)
+spellings_visible [] h = tt
+spellings_visible (b ∷ read) h = visible_append (text.spelling b) (flat_map text.spelling read) (spelling_visible b h.0) (spellings_visible read h.1)
 
-    by_empty : (c : Bool) → bytes_eq word (codes "\\e") ≡ c → (if c then Some [] else spelled_some word) ≡ Some read → (length (text.escaped read) ≤ length word) × AllBytes read
-    by_empty true is f = ?
-    by_empty false is f = ?
+pick_some : (c : Bool) (x y : List ℕ) → 0 < length x → 0 < length y → 0 < length (if c then x else y)
+pick_some true x y h k = h
+pick_some false x y h k = k
+
+spelling_some : (b : ℕ) → 0 < length (text.spelling b)
+unfolding text.spelling
+spelling_some b =
+    pick_some (is_plain b) (b ∷ []) _ (omega arith)
+    (pick_some (b == 32) _ _ (omega arith)
+    (pick_some (b == 10) _ _ (omega arith)
+    (pick_some (b == 13) _ _ (omega arith)
+    (pick_some (b == 92) _ _ (omega arith) (omega arith)))))
+
+-- what is written of bytes is a word, which is read again
+pub escaped_word : (read : List ℕ) → AllBytes read → IsWord (text.escaped read)
+unfolding text.escaped
+escaped_word [] h = record { some = omega arith; visible = ((omega arith, omega arith), ((omega arith, omega arith), tt)) }
+escaped_word (b ∷ read) h =
+    let some = spelling_some b in
+    record { some = omega (arith, some, length-append (text.spelling b) (flat_map text.spelling read)); visible = spellings_visible (b ∷ read) h }
+
+pub escaped_again : (read : List ℕ) → AllBytes read → unescaped (text.escaped read) ≡ Some read
+escaped_again read h = escaped_read read (all_bytes read h)
+
+-- numbers
+number_parts : (t : List ℕ) (n : ℕ) → decimal_number t ≡ Some n → (is_decimal t ≡ true) × (decimal_value t ≡ n)
+number_parts t n e = by_form (is_decimal t && nat_lt (decimal_value t) (2 ^ 128)) refl e
+  where
+    by_form : (c : Bool) → is_decimal t && nat_lt (decimal_value t) (2 ^ 128) ≡ c → (if c then Some (decimal_value t) else None) ≡ Some n → (is_decimal t ≡ true) × (decimal_value t ≡ n)
+    by_form true is f = ((both (is_decimal t) (nat_lt (decimal_value t) (2 ^ 128)) is).0, cc f)
+    by_form false is f = cc f
+
+all_digits : (t : List ℕ) → list_all is_ascii_digit t ≡ true → AllDigits 10 t
+all_digits [] e = tt
+all_digits (c ∷ t) e =
+    let parts = both (is_ascii_digit c) (list_all is_ascii_digit t) e in
+    let range = both (nat_le 48 c) (nat_le c 57) parts.0 in
+    let low = leb-true 48 c range.0 in
+    let high = leb-true c 57 range.1 in
+    let value = digit_value_digit c (low, high) in
+    (omega (arith, value, high), all_digits t parts.1)
+
+-- a number is written no longer than it was read
+pub decimal_short : (t : List ℕ) (n : ℕ) → decimal_number t ≡ Some n → n < 10 ^ 64 → length (decimal n) ≤ length t
+decimal_short t n e small =
+    let parts = number_parts t n e in
+    let form = both (nat_lt 0 (length t)) (list_all is_ascii_digit t) parts.0 in
+    let some : 0 < length t = leb-true 1 (length t) form.0 in
+    let less : decimal_value t < 10 ^ length t = digits_value-lt 10 t (all_digits t form.1) in
+    length-decimal-le_wide (length t) n some (subst (λ (k : ℕ). k < 10 ^ length t) parts.1 less) small
+
+digits_visible : (t : List ℕ) → AllDigits 10 t → AllVisible t
+digits_visible [] h = tt
+digits_visible (c ∷ t) h = let range = digit_from_value c h.0 in ((omega (arith, range), omega (arith, range)), digits_visible t h.1)
+
+pub decimal_word : (n : ℕ) → n < 10 ^ 64 → IsWord (decimal n)
+decimal_word n small = let written = decimal_is_IsNumeral_wide n small in record { some = written.0.0; visible = digits_visible (decimal n) written.0.1 }
+
+digits_spelled : (t : List ℕ) → AllDigits 10 t → text.spelled t ≡ Some t
+unfolding text.spelled
+digits_spelled [] h = refl
+digits_spelled (c ∷ t) h =
+    let range = digit_from_value c h.0 in
+    rw (ne_eqb c 92 (λ e. absurd (omega (arith, range, e)))) (rw (le-leb 33 c (omega (arith, range))) (rw (le-leb c 126 (omega (arith, range))) (ap (λ r. before (Some c) r) (digits_spelled t h.1))))
+
+digits_read : (t : List ℕ) → 0 < length t → AllDigits 10 t → unescaped t ≡ Some t
+digits_read [] some h = absurd (omega (arith, some))
+digits_read (c ∷ t) some h =
+    let range = digit_from_value c h.0 in
+    let other : c == 92 ≡ false = ne_eqb c 92 (λ e. absurd (omega (arith, range, e))) in
+    rw other (digits_spelled (c ∷ t) h)
+
+pub decimal_again : (n : ℕ) → n < 10 ^ 64 → unescaped (decimal n) ≡ Some (decimal n)
+decimal_again n small = let written = decimal_is_IsNumeral_wide n small in digits_read (decimal n) written.0.0 written.0.1
