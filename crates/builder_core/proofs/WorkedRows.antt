@@ -8,7 +8,7 @@ use Rattle.builder_core.specs.Build.{build_plan, plan_size, plan_height}
 use Rattle.builder_core.specs.Meaning.{Answering, meaning, nothing, not_found}
 use Rattle.builder_core.specs.Places.{fits}
 use Rattle.builder_core.specs.Plan.{Plan, Done, Then, Uses, Ends, Holds, EndsAny}
-use Rattle.builder_core.specs.Tree.{Tree, Calls, Wraps, ByPlace, Tries, Row, NoPlace, Place}
+use Rattle.builder_core.specs.Tree.{Tree, Calls, Wraps, ByPlace, Tries, NoPlace, Place}
 
 -- a place ends where a segment does
 places_fit : (fits (codes "/foo") (codes "/foo") ≡ true) × (fits (codes "/foo/") (codes "/foo") ≡ true) × (fits (codes "/foobar") (codes "/foo") ≡ false) × (fits (codes "/fo") (codes "/foo") ≡ false)
@@ -36,7 +36,11 @@ nested = Then (Holds (codes "/a") (Then (Holds (codes "/b") alone) Done)) (Then 
 abbrev nested_tree : Tree ℕ
 nested_tree = ByPlace (Place (codes "/a") (ByPlace (Place (codes "/b") (Calls 1) (Place [] (Calls 2) NoPlace))) (Place [] (Calls 2) NoPlace))
 
-nests : (build_plan ℕ nested None ≡ Some nested_tree) × (plan_size nested ≡ 4) × (plan_height nested ≡ 2) × (plan_size (Then (EndsAny (1 ∷ 2 ∷ [])) alone) ≡ 4) × (plan_height (Then (EndsAny {ℕ} []) Done) ≡ 1)
+-- an empty cascade
+abbrev empty_cascade : Plan ℕ
+empty_cascade = Then (EndsAny []) Done
+
+nests : (build_plan ℕ nested None ≡ Some nested_tree) × (plan_size nested ≡ 4) × (plan_height nested ≡ 2) × (plan_size (Then (EndsAny (1 ∷ 2 ∷ [])) alone) ≡ 4) × (plan_height empty_cascade ≡ 1)
 nests = (refl, refl, refl, refl, refl)
 
 -- each endpoint answers its number as the status
