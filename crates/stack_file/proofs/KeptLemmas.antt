@@ -55,8 +55,16 @@ mutual
       let d = default_before r p in
       let some = ends_length block (last_end d (plan_parts App block)) in
       let none = ends_length block (last_end None (plan_parts App block)) in
-      omega (arith, e, some, none, length-append (item_ends_built (Holds place block) d) (ends_built p r), length-append (item_ends_built (Holds place block) None) (alone_ends p),
-      length-append (ends_built block (last_end d (plan_parts App block))) (is_some (build_plan App block d) ∷ []), length-append (ends_built block (last_end None (plan_parts App block))) (is_some (build_plan App block None) ∷ []))
+      omega (
+        arith,
+        e,
+        some,
+        none,
+        length-append (item_ends_built (Holds place block) d) (ends_built p r),
+        length-append (item_ends_built (Holds place block) None) (alone_ends p),
+        length-append (ends_built block (last_end d (plan_parts App block))) (is_some (build_plan App block d) ∷ []),
+        length-append (ends_built block (last_end None (plan_parts App block))) (is_some (build_plan App block None) ∷ []),
+      )
 
 -- what the program keeps of a block
 abbrev pub notes_of : List (Item App) → List ℕ → Notes

@@ -130,11 +130,13 @@ found_first line behind i is inside rest =
     let some : 0 < position_or_len is_space text = unspaced line (omega (arith, inside)) in
     let first : 0 < i = omega (arith, is, some) in
     let less : length text ≤ length line = unindented_less line in
-    let size : length behind ≡ length text - (i + 1) = ap length rest ∙ length-drop (i + 1) text in
-    (sym (words_unindented line)
-    ∙ ap (λ all. without_empty all) (subst (λ (k : ℕ). AtPlace k text (parted text)) is (parted_at text at))
-    ∙ kept_first (take i text) (parted (drop (i + 1) text)) (taken_some i text first inside)
-    ∙ ap (λ left. take i text ∷ words left) (sym rest), omega (arith, size, less, inside))
+    let size : length behind ≡ length text - (i + 1) = ap length rest ∙ length-drop (i + 1) text in (
+      sym (words_unindented line)
+          ∙ ap (λ all. without_empty all) (subst (λ (k : ℕ). AtPlace k text (parted text)) is (parted_at text at))
+          ∙ kept_first (take i text) (parted (drop (i + 1) text)) (taken_some i text first inside)
+          ∙ ap (λ left. take i text ∷ words left) (sym rest),
+      omega (arith, size, less, inside),
+    )
 
 pub word_found : (line text behind : List ℕ) (i : ℕ) → text ≡ unindented line → position_or_len is_space text ≡ i → i < length text → behind ≡ drop (i + 1) text
     → (words line ≡ take i text ∷ words behind) × (length behind < length line)
@@ -145,11 +147,13 @@ alone_first : (line behind : List ℕ) → position_or_len is_space (unindented 
     → (words line ≡ unindented line ∷ words behind) × (length behind < length line)
 alone_first line behind none some nothing =
     let less : length (unindented line) ≤ length line = unindented_less line in
-    let size : length behind ≡ 0 = ap length nothing in
-    (sym (words_unindented line)
-    ∙ ap (λ all. without_empty all) (parted_none (unindented line) none)
-    ∙ kept_first (unindented line) [] some
-    ∙ ap (λ rest. unindented line ∷ words rest) (sym nothing), omega (arith, size, less, some))
+    let size : length behind ≡ 0 = ap length nothing in (
+      sym (words_unindented line)
+          ∙ ap (λ all. without_empty all) (parted_none (unindented line) none)
+          ∙ kept_first (unindented line) [] some
+          ∙ ap (λ rest. unindented line ∷ words rest) (sym nothing),
+      omega (arith, size, less, some),
+    )
 
 pub word_alone : (line text behind : List ℕ) → text ≡ unindented line → position_or_len is_space text ≡ length text → 0 < length text → behind ≡ []
     → (words line ≡ text ∷ words behind) × (length behind < length line)

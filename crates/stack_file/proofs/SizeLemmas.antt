@@ -13,7 +13,7 @@ use Rattle.stack_file.specs.Lines.{lines}
 use Rattle.stack_file.specs.Reads.{OpenBlock, AtPlace, InCascade, Standing, at_start, counted, behind_use, behind_run, behind_opening, around_ended, behind_end, stepped, whole, at_end, goes_on, reads_on, reads}
 use Rattle.stack_file.specs.Said.{Said, Nothing, UseLine, RunLine, MapLine, CascadeLine, EndLine, Breaks, said}
 use Rattle.stack_file.specs.Unbuilt.{ends_built, all_built, first_unbuilt}
-use Rattle.stack_file.proofs.EndLemmas.{alone_ends, unbuilt_append}
+use Rattle.stack_file.proofs.EndLemmas.{AllYes, alone_ends, unbuilt_append}
 use Rattle.stack_file.proofs.KeptLemmas.{ends_length, IsLined, AreLined, IsFine, step_fine}
 
 -- the steps in an open block, and how deep they reach below it
@@ -130,11 +130,18 @@ step_within n (Breaks rule) s w = tt
 pub record IsSound (p : Plan App) : Type 0 where
   pub small : IsSmall p
   pub built : is_some (build_plan App p None) ≡ true
+  pub each : AllYes (all_built p)
 
 first_or : (b : Bool) (o : Option ℕ) (n : ℕ) → earlier o (first_unbuilt (b ∷ []) (n ∷ [])) ≡ None → b ≡ true
 first_or true o n e = refl
 first_or false None n e = cc e
 first_or false (Some m) n e = cc e
+
+yes_from : (bs : List Bool) (ends : List ℕ) → length bs ≡ length ends → first_unbuilt bs ends ≡ None → AllYes bs
+yes_from [] ends e f = tt
+yes_from (b ∷ bs) [] e f = absurd (omega (arith, e))
+yes_from (true ∷ bs) (n ∷ ends) e f = (refl, yes_from bs ends (omega (arith, e)) f)
+yes_from (false ∷ bs) (n ∷ ends) e f = cc f
 
 ended_sound : (p : Plan App) (ends : List ℕ) (n : ℕ) (q : Plan App) → plan_size p ≤ 256 → plan_height p ≤ 32 → length (alone_ends p) ≡ length ends
     → whole p (first_unbuilt (all_built p) (ends ++ n ∷ [])) ≡ Ok q → IsSound q
@@ -148,6 +155,7 @@ ended_sound p ends n q few shallow lined e = by_first (first_unbuilt (all_built 
         let apart = unbuilt_append (ends_built p r) (is_some (build_plan App p None) ∷ []) ends (n ∷ []) (ends_length p r ∙ lined) in
         subst (λ (x : Plan App). IsSound x) same (record {
           small = record { few = few; shallow = shallow };
+          each = yes_from (all_built p) (ends ++ n ∷ []) (omega (arith, lined, ends_length p r, length-append (ends_built p r) (is_some (build_plan App p None) ∷ []), length-append ends (n ∷ []))) is;
           built = first_or (is_some (build_plan App p None)) (first_unbuilt (ends_built p r) ends) n (sym apart ∙ is);
         })
 

@@ -70,12 +70,28 @@ impl Standing {
     fn behind_use(self, ware: Ware) -> Result<Result<Standing, u8>, NoMemory>
         ensures { IfOk result (λ next. spec.kept_now next ≡ spec.kept_use ware (spec.kept self).steps (spec.kept self).outer (spec.kept self).inner) }
     {
-        let Standing { steps, inner, outer } = self;
+        let Standing {
+            steps,
+            inner,
+            outer,
+        } = self;
         match inner {
-            Block::Place { place, mut lines, notes } => {
+            Block::Place {
+                place,
+                mut lines,
+                notes,
+            } => {
                 lines.push(Line::Use(ware))?;
                 let notes = notes.behind_use();
-                Ok(counted(steps, Block::Place { place, lines, notes }, outer))
+                Ok(counted(
+                    steps,
+                    Block::Place {
+                        place,
+                        lines,
+                        notes,
+                    },
+                    outer,
+                ))
             }
             Block::Cascade(_) => Ok(Err(7)),
         }
@@ -84,12 +100,28 @@ impl Standing {
     fn behind_run(self, app: App) -> Result<Result<Standing, u8>, NoMemory>
         ensures { IfOk result (λ next. spec.kept_now next ≡ spec.kept_run app (spec.kept self).steps (spec.kept self).outer (spec.kept self).inner) }
     {
-        let Standing { steps, inner, outer } = self;
+        let Standing {
+            steps,
+            inner,
+            outer,
+        } = self;
         match inner {
-            Block::Place { place, mut lines, notes } => {
+            Block::Place {
+                place,
+                mut lines,
+                notes,
+            } => {
                 lines.push(Line::Run(app))?;
                 let notes = notes.behind_run();
-                Ok(counted(steps, Block::Place { place, lines, notes }, outer))
+                Ok(counted(
+                    steps,
+                    Block::Place {
+                        place,
+                        lines,
+                        notes,
+                    },
+                    outer,
+                ))
             }
             Block::Cascade(mut apps) => {
                 apps.push(app)?;
@@ -101,10 +133,22 @@ impl Standing {
     fn behind_opening(self, block: Block) -> Result<Result<Standing, u8>, NoMemory>
         ensures { IfOk result (λ next. spec.kept_now next ≡ spec.kept_opening (spec.kept_block block) (spec.kept self).steps (spec.kept self).outer (spec.kept self).inner) }
     {
-        let Standing { steps, inner, mut outer } = self;
+        let Standing {
+            steps,
+            inner,
+            mut outer,
+        } = self;
         match inner {
-            Block::Place { place, lines, notes } => {
-                outer.push(Block::Place { place, lines, notes })?;
+            Block::Place {
+                place,
+                lines,
+                notes,
+            } => {
+                outer.push(Block::Place {
+                    place,
+                    lines,
+                    notes,
+                })?;
                 Ok(counted(steps, block, outer))
             }
             Block::Cascade(_) => Ok(Err(7)),
@@ -114,12 +158,20 @@ impl Standing {
     fn behind_end(self, line: u32) -> Result<Result<Standing, u8>, NoMemory>
         ensures { IfOk result (λ next. spec.kept_now next ≡ spec.kept_closing line (spec.kept self).steps (spec.kept self).inner (spec.kept self).outer) }
     {
-        let Standing { steps, inner, mut outer } = self;
+        let Standing {
+            steps,
+            inner,
+            mut outer,
+        } = self;
         let Some(around) = outer.pop() else {
             return Ok(Err(6));
         };
         let inner = around_ended(line, inner, around)?;
-        Ok(Ok(Standing { steps, inner, outer }))
+        Ok(Ok(Standing {
+            steps,
+            inner,
+            outer,
+        }))
     }
 
     // The steps, where this is the end of the file and the line the one behind the last: or the rule that
@@ -171,19 +223,36 @@ fn counted(steps: usize, inner: Block, outer: Vec<Block>) -> Result<Standing, u8
 fn around_ended(line: u32, inner: Block, around: Block) -> Result<Block, NoMemory>
     ensures { IfOk result (λ block. spec.kept_block block ≡ spec.kept_around line (spec.kept_block inner) (spec.kept_block around)) }
 {
-    let Block::Place { place, mut lines, notes } = around else {
+    let Block::Place {
+        place,
+        mut lines,
+        notes,
+    } = around
+    else {
         return Ok(around);
     };
     match inner {
         Block::Cascade(apps) => {
             lines.push(Line::Cascade(apps))?;
             let notes = notes.behind_run();
-            Ok(Block::Place { place, lines, notes })
+            Ok(Block::Place {
+                place,
+                lines,
+                notes,
+            })
         }
-        Block::Place { place: inside, lines: block, notes: within } => {
+        Block::Place {
+            place: inside,
+            lines: block,
+            notes: within,
+        } => {
             lines.push(Line::Map(inside, Steps { lines: block }))?;
             let notes = notes.behind_map(line, within);
-            Ok(Block::Place { place, lines, notes })
+            Ok(Block::Place {
+                place,
+                lines,
+                notes,
+            })
         }
     }
 }

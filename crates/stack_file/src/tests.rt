@@ -97,7 +97,11 @@ fn tells_the_first_bad_line_and_its_least_rule(rt: HostRuntime) {
         ("map /a\nrun echo\nend\nuse lint\n", 5, 8),
         ("map /a\nend\nboil\n", 3, 2),
     ] {
-        assert_eq!(rt; fault_of(rt.alloc(), text.as_bytes()), Some(FileFault { line, rule }), "{text}");
+        assert_eq!(rt;
+            fault_of(rt.alloc(), text.as_bytes()),
+            Some(FileFault { line, rule }),
+            "{text}"
+        );
     }
 }
 
@@ -105,19 +109,67 @@ fn tells_the_first_bad_line_and_its_least_rule(rt: HostRuntime) {
 fn holds_lines_steps_and_depth_to_their_limits(rt: HostRuntime) -> Result<(), Fail> {
     for (before, text, times, after, fault) in [
         ("   run raise ", "a", 4_086, "", None),
-        ("   run raise ", "a", 4_087, "", Some(FileFault { line: 1, rule: 1 })),
+        (
+            "   run raise ",
+            "a",
+            4_087,
+            "",
+            Some(FileFault { line: 1, rule: 1 }),
+        ),
         ("#", " ", 4_095, "\nrun echo", None),
-        ("#", " ", 4_096, "\nrun echo", Some(FileFault { line: 1, rule: 1 })),
+        (
+            "#",
+            " ",
+            4_096,
+            "\nrun echo",
+            Some(FileFault { line: 1, rule: 1 }),
+        ),
         ("", " ", 65_528, "run echo", None),
         ("", "run echo\n", 256, "", None),
-        ("", "run echo\n", 257, "", Some(FileFault { line: 257, rule: 9 })),
+        (
+            "",
+            "run echo\n",
+            257,
+            "",
+            Some(FileFault { line: 257, rule: 9 }),
+        ),
         ("cascade\n", "run echo\n", 255, "end\n", None),
-        ("cascade\n", "run echo\n", 256, "end\n", Some(FileFault { line: 257, rule: 9 })),
+        (
+            "cascade\n",
+            "run echo\n",
+            256,
+            "end\n",
+            Some(FileFault { line: 257, rule: 9 }),
+        ),
         ("run echo\n", "map /a\nend\n", 255, "", None),
-        ("run echo\n", "map /a\nend\n", 256, "", Some(FileFault { line: 512, rule: 9 })),
-        ("run echo\n", "map /a\n", 33, "", Some(FileFault { line: 34, rule: 9 })),
-        ("run echo\n", "map /a\n", 32, "cascade\n", Some(FileFault { line: 34, rule: 9 })),
-        ("run echo\n", "map /a\n", 32, "", Some(FileFault { line: 34, rule: 6 })),
+        (
+            "run echo\n",
+            "map /a\nend\n",
+            256,
+            "",
+            Some(FileFault { line: 512, rule: 9 }),
+        ),
+        (
+            "run echo\n",
+            "map /a\n",
+            33,
+            "",
+            Some(FileFault { line: 34, rule: 9 }),
+        ),
+        (
+            "run echo\n",
+            "map /a\n",
+            32,
+            "cascade\n",
+            Some(FileFault { line: 34, rule: 9 }),
+        ),
+        (
+            "run echo\n",
+            "map /a\n",
+            32,
+            "",
+            Some(FileFault { line: 34, rule: 6 }),
+        ),
     ] {
         let all = repeated(rt.alloc(), before, text, times, after)?;
         assert_eq!(rt; fault_of(rt.alloc(), &all), fault, "{before}");
@@ -132,7 +184,10 @@ fn holds_lines_steps_and_depth_to_their_limits(rt: HostRuntime) -> Result<(), Fa
 #[test]
 fn writes_the_canonical_form_of_what_was_read(rt: HostRuntime) -> Result<(), Fail> {
     for (text, written) in [
-        ("run  text 0200 text/plain a\\x20b  ", "run text 200 text/plain a\\sb\n"),
+        (
+            "run  text 0200 text/plain a\\x20b  ",
+            "run text 200 text/plain a\\sb\n",
+        ),
         ("# a comment\n\n   run echo", "run echo\n"),
         ("run env\n", "run env\n"),
         ("run pieces 00100\n", "run pieces 100\n"),
@@ -145,14 +200,29 @@ fn writes_the_canonical_form_of_what_was_read(rt: HostRuntime) -> Result<(), Fai
         ("run late 007 a !\n", "run late 7 a !\n"),
         ("run late 7 ! a\n", "run late 7 ! a\n"),
         ("run late 0 \\x21\n", "run late 0 !\n"),
-        ("use content_type\nrun echo\n", "use content_type text/html\nrun echo\n"),
-        ("use content_type \\e\nrun echo\n", "use content_type \\e\nrun echo\n"),
-        ("use head\nuse content_length\nuse method_override\nuse lint\nuse set_header a \\s\nrun echo\n", "use head\nuse content_length\nuse method_override\nuse lint\nuse set_header a \\s\nrun echo\n"),
+        (
+            "use content_type\nrun echo\n",
+            "use content_type text/html\nrun echo\n",
+        ),
+        (
+            "use content_type \\e\nrun echo\n",
+            "use content_type \\e\nrun echo\n",
+        ),
+        (
+            "use head\nuse content_length\nuse method_override\nuse lint\nuse set_header a \\s\nrun echo\n",
+            "use head\nuse content_length\nuse method_override\nuse lint\nuse set_header a \\s\nrun echo\n",
+        ),
         ("map /\nrun echo\nend\n", "map /\n  run echo\nend\n"),
         ("map //\nrun echo\nend\n", "map //\n  run echo\nend\n"),
-        ("map /a/\nmap /b//\nrun echo\nend\nend\n", "map /a\n  map /b//\n    run echo\n  end\nend\n"),
+        (
+            "map /a/\nmap /b//\nrun echo\nend\nend\n",
+            "map /a\n  map /b//\n    run echo\n  end\nend\n",
+        ),
         ("cascade\nend\n", "cascade\nend\n"),
-        ("map /\\s\ncascade\nrun echo\nrun env\nend\nend\n", "map /\\s\n  cascade\n    run echo\n    run env\n  end\nend\n"),
+        (
+            "map /\\s\ncascade\nrun echo\nrun env\nend\nend\n",
+            "map /\\s\n  cascade\n    run echo\n    run env\n  end\nend\n",
+        ),
         ("map /a\nend\nrun echo\n", "map /a\nend\nrun echo\n"),
     ] {
         let once = rewritten(rt.alloc(), text.as_bytes())?;

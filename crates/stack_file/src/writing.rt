@@ -111,12 +111,7 @@ fn put_one(name: &[u8], text: &[u8], out: &mut Vec<u8>) -> Result<(), NoMemory>
 }
 
 // A name and two texts.
-fn put_two(
-    name: &[u8],
-    first: &[u8],
-    second: &[u8],
-    out: &mut Vec<u8>,
-) -> Result<(), NoMemory>
+fn put_two(name: &[u8], first: &[u8], second: &[u8], out: &mut Vec<u8>) -> Result<(), NoMemory>
     ensures { OnOk result (out.new.items ≡ out.old.items ++ spec.spaced (name.now ∷ escaped first.now ∷ escaped second.now ∷ [])) }
 {
     put_word(name, out)?;
@@ -205,7 +200,11 @@ fn write_app(app: &App, out: &mut Vec<u8>) -> Result<(), NoMemory>
             put_word(b"raise", out)?;
             put_text(text.get(), out)
         }
-        App::Late { length, pieces, raises } => {
+        App::Late {
+            length,
+            pieces,
+            raises,
+        } => {
             put_word(b"late", out)?;
             put_number(*length, out)?;
             put_texts(pieces.get(), out)?;
