@@ -8,7 +8,7 @@ use Rattle.talk_core.specs.declared.ended.Why.{Why}
 use Rattle.talk_core.specs.declared.ended.Why.TheVariants as why
 use Rattle.talk_core.proofs.CallerLemmas.{counted_more}
 use Rattle.conn_core.specs.Calls.{TurnEnds}
-use Rattle.conn_core.specs.Inner.{SameShown}
+use Rattle.conn_core.specs.Moves.{SameShown}
 use Rattle.conn_core.specs.Shown.{Shown, Moved}
 use Rattle.conn_core.proofs.ShownLemmas.{appended_nil}
 

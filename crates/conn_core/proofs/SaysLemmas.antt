@@ -9,7 +9,8 @@ use Rattle.conn_core.specs.declared.left.Said.TheVariants as said
 use Rattle.conn_core.specs.declared.state.State.{State}
 use Rattle.conn_core.specs.declared.state.State.TheVariants as state
 use Rattle.conn_core.specs.Calls.{TurnEnds, IsOfFlush}
-use Rattle.conn_core.specs.Inner.{SameShown, SaysOn, SaidLeaves, Says}
+use Rattle.conn_core.specs.Inner.{SaysOn, SaidLeaves, Says}
+use Rattle.conn_core.specs.Moves.{SameShown}
 use Rattle.conn_core.specs.Shown.{Shown}
 use Rattle.conn_core.proofs.ShownLemmas.{appended_nil}
 

@@ -29,7 +29,8 @@ use Rattle.conn_core.specs.declared.state.State.{State}
 use Rattle.conn_core.specs.declared.state.State.TheVariants as state
 use Rattle.conn_core.specs.Answers.{TurnedSo, FlushedSo, FedSo}
 use Rattle.conn_core.specs.Calls.{TurnEnds, RestsBehind, IsSpent, TurnTells, Turns, FlushTells, Flushes, IsOfFlush, FeedTells, Feeds}
-use Rattle.conn_core.specs.Inner.{IsFed, ReadLeaves, ReadsBy, Starts, TellsBy, writes_of, SaysOn, SaidLeaves, Says, Steps, IsSpentLeft, StepLeaves}
+use Rattle.conn_core.specs.Inner.{IsFed, ReadLeaves, ReadsBy, TellsBy, writes_of, SaysOn, SaidLeaves, Says, Steps, IsSpentLeft, StepLeaves}
+use Rattle.conn_core.specs.Moves.{Starts}
 use Rattle.conn_core.specs.Place.{IsSaying, state_at}
 use Rattle.conn_core.specs.Rests.{RestsAt}
 use Rattle.conn_core.specs.Shown.{Shown, Moved, replied_at, why_at}

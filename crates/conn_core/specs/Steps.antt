@@ -47,6 +47,13 @@ Sends write.NotYet before after old new = (after ≡ before) × (new.sent ≡ ol
 Sends write.Failed before after old new = (after ≡ before) × (new.sent ≡ old.sent) × Rose old.failed_writes new.failed_writes
 Sends write.NoMemory before after old new = (after ≡ before) × (new.sent ≡ old.sent)
 
+-- what a write of all bytes of the ring leaves of them
+abbrev pub SendsOff : LinkWrite → List ℕ → List ℕ → Type 0
+SendsOff (write.Took n) before after = after ≡ drop n before
+SendsOff write.NotYet before after = after ≡ before
+SendsOff write.Failed before after = after ≡ before
+SendsOff write.NoMemory before after = after ≡ before
+
 -- the bytes held were fed, and this place is behind them
 abbrev pub FeedsHeld : {B H : Type 0} → Intake → List ℕ → Intake → List ℕ → At B H → Type 0
 FeedsHeld {B} {H} old held new left at.Reading = AnswersRightly old held feed.More new × (left ≡ [])
