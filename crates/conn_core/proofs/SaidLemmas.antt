@@ -54,7 +54,7 @@ pub filled_ring : {B H : Type 0} (a : At B H) (ring : List ℕ) → IsFilledAt a
 filled_ring {B} {H} at.Reading ring is = absurd is
 filled_ring {B} {H} at.Asked ring is = absurd is
 filled_ring {B} {H} (at.Refused f) ring is = absurd is
-filled_ring {B} {H} (at.Answering f) ring is = is.0
+filled_ring {B} {H} (at.Answering f) ring is = omega (arith, is.0)
 filled_ring {B} {H} (at.Writing keeps) ring is = is
 filled_ring {B} {H} at.Refusing ring is = is
 filled_ring {B} {H} (at.Over ended) ring is = absurd is
@@ -145,7 +145,7 @@ said_whole {B} {H} (at.Answering framer) b before calls s s' old new held left e
       replied = refl;
       why = tt;
       ends = over;
-      less = λ x. more f.0;
+      less = λ x. more (filled_ring {B = B} {H = H} (at.Answering framer) before f);
     })
   where
     more : 0 < length before → length ([] ++ framer.rest.bytes) < length (before ++ framer.rest.bytes)

@@ -132,11 +132,12 @@ impl<L: Link, B: Body, H: Hijack + Drop> Conn<L, B, H> {
 
     /// Makes one read, which offers room for 16,384 bytes, and feeds what came to the reader of requests.
     ///
-    /// It takes memory only for a request's body. `now` is the moment, in milliseconds.
+    /// Where memory is refused for what came, the connection is over. `now` is the moment, in milliseconds.
     pub fn feed(&mut self, now: u64) -> Next
         requires reading { (shown self.old).state ≡ State.Reading }
         ensures number { number_of self.new ≡ number_of self.old }
         ensures feeds { Feeds result (shown self.old) (shown self.new) (L.seen (link_of self.old)) (L.seen (link_of self.new)) }
+        ensures any { (V : Voice H) (T : Teller H) → HoldsWith L.seen V T self.old → HoldsWith L.seen V T self.new }
         ensures holds { (S : Stacks H) → Holds L.seen (record { says = H.says; ends = H.ends }) S self.old → Holds L.seen (record { says = H.says; ends = H.ends }) S self.new }
     {
         let _now = now;
@@ -178,6 +179,7 @@ impl<L: Link, B: Body, H: Hijack + Drop> Conn<L, B, H> {
         requires owes { (shown self.old).state ≡ State.Answering }
         ensures number { number_of self.new ≡ number_of self.old }
         ensures flushes { Flushes result (shown self.old) (shown self.new) (L.seen (link_of self.old)) (L.seen (link_of self.new)) }
+        ensures any { (V : Voice H) (T : Teller H) → HoldsWith L.seen V T self.old → HoldsWith L.seen V T self.new }
         ensures holds { (S : Stacks H) → Holds L.seen (record { says = H.says; ends = H.ends }) S self.old → Holds L.seen (record { says = H.says; ends = H.ends }) S self.new }
     {
         let _now = now;
