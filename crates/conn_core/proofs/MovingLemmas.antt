@@ -34,7 +34,7 @@ pub wants_memory : (o n : Shown) → Starts 0 o n → n.state ≡ state.Over →
 wants_memory o n h over =
     let calls : n.calls ≡ o.calls = omega (arith, h.calls) in
     elim h.place [
-      | inl p ↦ cc
+      | inl p ↦ let saying : n.state ≡ state.Answering = p.0 in cc
       | inr p ↦ record { same = h.same; calls = calls; state = over; why = p.1 }
     ]
 
