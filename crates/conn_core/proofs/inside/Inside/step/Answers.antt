@@ -130,7 +130,7 @@ returns-then-is_spent-2-clause-moves g c =
       refl,
       refl,
       refl,
-      spent_stops (shows c.args.self.now) (g.L.Link.seen c.args.link.now) c.args.left.now (inr ready) (c.is_spent-2.ensures.0 c.if-is_spent-2.true),
+      spent_stops (shows c.args.self.now) (g.L.Link.seen c.args.link.now) c.args.left.now (inr ready) (c.is_spent-in-Ready.ensures.0 c.if-is_spent-2.true),
     )
 
 pub returns-then-left-eq0-clause-moves : goal.returns-then-left-eq0-clause-moves
@@ -179,7 +179,7 @@ returns-in-End-clause-moves g c =
 
 pub returns-else-is_spent-2-clause-moves : goal.returns-else-is_spent-2-clause-moves
 returns-else-is_spent-2-clause-moves g c =
-    let some = unspent c.is_spent-2.result c.args.left.now c.is_spent-2.ensures c.if-is_spent-2.false in
+    let some = unspent c.is_spent-in-Ready.result c.args.left.now c.is_spent-in-Ready.ensures c.if-is_spent-2.false in
     let ready : place_as c.args.self.now.at ≡ state.Ready = sym c.state_at.ensures ∙ c.in-Ready.is in
     takes_makes (shows c.args.self.now) (shows c.start.new.self) (g.L.Link.seen c.args.link.now) c.args.left.now c.start.new.left
     c.start.ensures.takes c.start.ensures.left c.start.ensures.few ready (is_open (shows c.args.self.now) (g.L.Link.seen c.args.link.now) c.args.left.now some)
