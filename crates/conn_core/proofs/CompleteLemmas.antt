@@ -1,8 +1,7 @@
 -- What stands once the link took all of the ring.
-use Rattle.std.proofs.Common.{◌≡◌, ℕ, suc, ◌+◌, ◌<◌, Bool, true, false, List, [], ◌∷◌, ◌++◌, length, refl, sym, ap, subst, ◌∙◌, arith}
+use Rattle.std.proofs.Common.{◌≡◌, ℕ, suc, ◌+◌, ◌<◌, Bool, true, false, List, [], ◌++◌, length, refl, sym, subst, ◌∙◌, arith}
 use Rattle.rack_outside.specs.Link.{Seen}
 use Rattle.message_framing.specs.declared.intake.Intake.{Intake}
-use Rattle.reply_framing.specs.declared.types.After.TheVariants.{Keep, Close}
 use Rattle.talk_core.specs.declared.ended.Why.TheVariants as why
 use Rattle.talk_core.specs.Stands.{Stands, silent, replies, refuses}
 use Rattle.talk_core.specs.Tail.{Voice}

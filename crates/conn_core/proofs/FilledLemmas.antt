@@ -1,5 +1,5 @@
 -- What a connection shows once the ring was filled.
-use Rattle.std.proofs.Common.{◌≡◌, ◌≢◌, ◌↔◌, ℕ, ◌+◌, ◌-◌, ◌<◌, ◌≤◌, Bool, true, false, IsTrue, List, [], ◌++◌, length, refl, sym, ap, subst, ◌∙◌, arith, Option, None, Some, Result, Ok, Err}
+use Rattle.std.proofs.Common.{◌≡◌, ◌↔◌, ℕ, Bool, true, false, IsTrue, List, refl, sym, ap, subst, ◌∙◌, None, Ok, Err}
 use Rattle.circular_buffer.specs.Buffer.{Buffer}
 use Rattle.rack_types.specs.declared.peer.Local.{Local}
 use Rattle.message_framing.specs.declared.intake.Intake.{Intake}

@@ -1,5 +1,5 @@
 -- What several parts of a call leave, one behind the other.
-use Rattle.std.proofs.Common.{◌≡◌, ℕ, ◌+◌, ◌-◌, ◌≤◌, List, [], ◌++◌, length, length-append, append_assoc, refl, sym, ap, subst, ◌∙◌, arith, Option, None, Some}
+use Rattle.std.proofs.Common.{◌≡◌, ℕ, ◌+◌, ◌≤◌, List, [], ◌++◌, length, length-append, append_assoc, refl, sym, ap, subst, ◌∙◌, arith, Option, None, Some}
 use Rattle.rack_outside.specs.Link.{Seen, marked}
 use Rattle.rack_outside.specs.Told.{appended}
 use Rattle.rack_outside.proofs.CallerLemmas.{rose_within}

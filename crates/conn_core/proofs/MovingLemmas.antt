@@ -1,20 +1,17 @@
 -- The steps of a turn and of a flush as moves, and all moves of a call, one behind the other.
-use Rattle.std.proofs.Common.{◌≡◌, ◌≢◌, ℕ, ◌+◌, ◌-◌, ◌<◌, ◌≤◌, Bool, true, false, List, [], ◌∷◌, ◌++◌, refl, sym, ap, subst, ◌∙◌, arith, Some, ◌⊎◌, inl, inr}
+use Rattle.std.proofs.Common.{◌≡◌, ◌≢◌, ℕ, ◌+◌, ◌-◌, ◌<◌, ◌≤◌, Bool, true, false, List, [], ◌∷◌, ◌++◌, refl, sym, ap, subst, ◌∙◌, arith, ◌⊎◌, inl, inr}
 use Rattle.rack_outside.specs.Link.{Seen}
 use Rattle.rack_outside.specs.declared.link.LinkRead.{LinkRead}
 use Rattle.rack_outside.specs.declared.link.LinkRead.TheVariants as read
 use Rattle.rack_outside.specs.declared.link.LinkWrite.{LinkWrite}
-use Rattle.rack_outside.specs.declared.link.LinkWrite.TheVariants as write
-use Rattle.talk_core.specs.declared.ended.Why.TheVariants as why
 use Rattle.conn_core.specs.declared.left.Left.{Left}
-use Rattle.conn_core.specs.declared.left.Said.{Said}
 use Rattle.conn_core.specs.declared.left.Said.TheVariants as said
 use Rattle.conn_core.specs.declared.left.Step.{Step}
 use Rattle.conn_core.specs.declared.left.Step.TheVariants as step
 use Rattle.conn_core.specs.declared.state.State.{State}
 use Rattle.conn_core.specs.declared.state.State.TheVariants as state
 use Rattle.conn_core.specs.Inner.{IsSpentLeft, TakesUp, SaysOnce, left_at, MadeTo, StepMoves}
-use Rattle.conn_core.specs.Moves.{Starts, SameShown, NamesFault, WantsMemory, read_waits, ReadsOnce, write_waits, WritesOnce, OwesRightly, Move, Moment, IsOpen, MayWrite, Spends, Makes, Goes, turn_at, IsSpentAt, StopsIn, TurnStops, flush_at, FlushStops}
+use Rattle.conn_core.specs.Moves.{Starts, WantsMemory, read_waits, ReadsOnce, write_waits, WritesOnce, OwesRightly, Move, Moment, IsOpen, MayWrite, Spends, Goes, turn_at, StopsIn, TurnStops, flush_at, FlushStops}
 use Rattle.conn_core.specs.Moves.{Run, Refusal, Want, Read, Write}
 use Rattle.conn_core.specs.Shown.{Shown}
 use Rattle.conn_core.proofs.MoveLemmas.{goes_on}

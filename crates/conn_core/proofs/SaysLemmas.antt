@@ -1,5 +1,5 @@
 -- What is said behind a fill.
-use Rattle.std.proofs.Common.{◌≡◌, ◌≢◌, ℕ, ◌+◌, ◌<◌, ◌≤◌, List, [], length, take, drop, refl, sym, ap, subst, ◌∙◌, arith, Option, None, Some}
+use Rattle.std.proofs.Common.{◌≡◌, ℕ, ◌<◌, ◌≤◌, List, [], length, take, drop, refl, sym, ap, subst, ◌∙◌, arith, Option, Some}
 use Rattle.rack_outside.specs.Link.{Seen, Writes, IsOneWrite, WritesAhead, next_place}
 use Rattle.rack_outside.specs.declared.link.LinkWrite.{LinkWrite}
 use Rattle.rack_outside.specs.declared.link.LinkWrite.TheVariants as write
@@ -12,7 +12,7 @@ use Rattle.conn_core.specs.declared.state.State.{State}
 use Rattle.conn_core.specs.declared.state.State.TheVariants as state
 use Rattle.conn_core.specs.Calls.{TurnEnds, IsOfFlush}
 use Rattle.conn_core.specs.Inner.{SaysOn, SaidLeaves, Says, SaysOnce}
-use Rattle.conn_core.specs.Moves.{ring_room, SameShown, WantsMemory, BehindWrite, TookTo, WritesOnce}
+use Rattle.conn_core.specs.Moves.{ring_room, SameShown, BehindWrite, TookTo, WritesOnce}
 use Rattle.conn_core.specs.Shown.{Shown}
 use Rattle.conn_core.proofs.ShownLemmas.{appended_nil}
 

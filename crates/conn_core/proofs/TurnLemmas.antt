@@ -2,7 +2,7 @@
 use Rattle.std.proofs.Common.{◌≡◌, ◌≢◌, ◌↔◌, ℕ, ◌+◌, ◌-◌, ◌<◌, ◌≤◌, Bool, true, false, IsTrue, List, [], ◌∷◌, ◌++◌, length, refl, sym, ap, subst, ◌∙◌, arith, Option, None, ◌⊎◌, inl, inr, ltb}
 use Rattle.std.proofs.lemmas.Bool.Decides.{Decides-ltb}
 use Rattle.rack_outside.specs.Link.{Seen}
-use Rattle.rack_outside.specs.Told.{Rose, counted}
+use Rattle.rack_outside.specs.Told.{Rose}
 use Rattle.rack_outside.specs.declared.link.LinkRead.{LinkRead}
 use Rattle.rack_outside.specs.declared.link.LinkRead.TheVariants as read
 use Rattle.rack_outside.proofs.CallerLemmas.{rose_within}
@@ -27,8 +27,8 @@ use Rattle.conn_core.specs.declared.state.Next.{Next}
 use Rattle.conn_core.specs.declared.state.Next.TheVariants as next
 use Rattle.conn_core.specs.declared.state.State.{State}
 use Rattle.conn_core.specs.declared.state.State.TheVariants as state
-use Rattle.conn_core.specs.Answers.{TurnedSo, FlushedSo, FedSo}
-use Rattle.conn_core.specs.Calls.{TurnEnds, RestsBehind, IsSpent, TurnTells, Turns, FlushTells, Flushes, IsOfFlush, FeedTells, Feeds}
+use Rattle.conn_core.specs.Answers.{TurnedSo, FlushedSo}
+use Rattle.conn_core.specs.Calls.{TurnEnds, RestsBehind, IsSpent, TurnTells, Turns, FlushTells, Flushes, IsOfFlush}
 use Rattle.conn_core.specs.Inner.{IsFed, ReadLeaves, ReadsBy, TellsBy, writes_of, SaysOn, SaidLeaves, Says, Steps, IsSpentLeft, StepLeaves}
 use Rattle.conn_core.specs.Moves.{Starts}
 use Rattle.conn_core.specs.Place.{IsSaying, state_at}

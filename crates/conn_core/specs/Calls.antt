@@ -1,23 +1,10 @@
 -- What the calls of a connection answer, and when each why may come.
-use Rattle.std.specs.Prelude.{◌≡◌, ◌≢◌, ℕ, ◌+◌, ◌<◌, ◌≤◌, Bool, true, false, List, [], length, Option, None, Some, ◌⊎◌, ⊤}
-use Rattle.rack_types.specs.declared.peer.Local.{Local}
-use Rattle.rack_types.specs.Body.{Content}
-use Rattle.rack_types.specs.Env.{Pairs}
-use Rattle.rack_types.specs.Request.{Parts}
-use Rattle.rack_types.specs.declared.answer.Answer.{Answer}
-use Rattle.rack_env.specs.Environment.{env_pairs}
+use Rattle.std.specs.Prelude.{◌≡◌, ◌≢◌, ℕ, ◌+◌, ◌<◌, ◌≤◌, Bool, false, List, [], length, Option, None, Some, ◌⊎◌, ⊤}
 use Rattle.rack_outside.specs.Link.{Seen, marked}
 use Rattle.rack_outside.specs.Told.{Rose}
 use Rattle.rack_outside.specs.declared.link.LinkRead.{LinkRead}
-use Rattle.rack_outside.specs.declared.link.LinkRead.TheVariants as read
 use Rattle.talk_core.specs.declared.ended.Why.{Why}
 use Rattle.talk_core.specs.declared.ended.Why.TheVariants as why
-use Rattle.talk_core.specs.Teller.{Stack, Teller, reply_of, is_last}
-use Rattle.conn_core.specs.declared.left.Said.{Said}
-use Rattle.conn_core.specs.declared.left.Said.TheVariants as said
-use Rattle.conn_core.specs.declared.left.Left.{Left}
-use Rattle.conn_core.specs.declared.left.Step.{Step}
-use Rattle.conn_core.specs.declared.left.Step.TheVariants as step
 use Rattle.conn_core.specs.declared.state.Next.{Next}
 use Rattle.conn_core.specs.declared.state.Next.TheVariants as next
 use Rattle.conn_core.specs.declared.state.State.{State}

@@ -1,9 +1,6 @@
 -- What the steps of a connection leave of what it shows. This serves inner contracts alone.
-use Rattle.std.specs.Prelude.{◌≡◌, ◌≢◌, ℕ, ◌+◌, ◌-◌, ◌*◌, ◌<◌, ◌≤◌, Bool, true, false, List, [], length, Option, None, Some, ◌⊎◌, ⊤}
-use Rattle.rack_types.specs.declared.answer.Answer.{Answer}
+use Rattle.std.specs.Prelude.{◌≡◌, ℕ, ◌+◌, ◌-◌, ◌*◌, ◌<◌, ◌≤◌, Bool, true, false, List, [], length, None, Some, ◌⊎◌, ⊤}
 use Rattle.rack_types.specs.declared.peer.Local.{Local}
-use Rattle.rack_types.specs.Body.{Content}
-use Rattle.rack_types.specs.Env.{Pairs}
 use Rattle.rack_types.specs.Request.{Parts}
 use Rattle.rack_env.specs.Environment.{env_pairs}
 use Rattle.rack_outside.specs.Link.{Seen}
@@ -26,7 +23,7 @@ use Rattle.conn_core.specs.declared.state.State.{State}
 use Rattle.conn_core.specs.declared.state.State.TheVariants as state
 use Rattle.conn_core.specs.Place.{state_at}
 use Rattle.conn_core.specs.Shown.{Shown, Moved}
-use Rattle.conn_core.specs.Calls.{TurnEnds, IsOfFeed, IsOfFlush, IsSpent, RestsBehind}
+use Rattle.conn_core.specs.Calls.{TurnEnds, IsOfFeed, IsOfFlush, RestsBehind}
 use Rattle.conn_core.specs.Moves.{ring_room, SameShown, Starts, NamesFault, WantsMemory, write_waits, WritesOnce, OwesRightly, Move, Moment, Makes, TurnStops}
 
 -- behind bytes that were fed the connection reads on, is ready, or wanted memory

@@ -1,5 +1,5 @@
 -- What the steps of a connection do to the parts that they change. This serves inner contracts alone.
-use Rattle.std.specs.Prelude.{◌≡◌, ◌≢◌, ◌↔◌, ◌<◌, ℕ, Bool, true, false, IsTrue, List, [], ◌++◌, length, drop, Option, None, Some, Result, Ok, Err, ⊤}
+use Rattle.std.specs.Prelude.{◌≡◌, ◌≢◌, ◌↔◌, ◌<◌, ℕ, Bool, true, false, IsTrue, List, [], ◌++◌, length, drop, Ok, Err, ⊤}
 use Rattle.std.specs.declared.alloc.AllocError.{AllocError}
 use Rattle.circular_buffer.specs.Buffer.{Buffer}
 use Rattle.rack_types.specs.declared.answer.Answer.{Answer}

@@ -1,4 +1,4 @@
-use Rattle.std.proofs.Common.{◌≡◌, ◌↔◌, IsTrue, ◌<◌, ℕ, List, refl, sym, ap, subst, ◌∙◌, arith}
+use Rattle.std.proofs.Common.{◌≡◌, ◌↔◌, IsTrue, ℕ, refl, sym, subst, ◌∙◌}
 use Rattle.circular_buffer.specs.Buffer.{Buffer}
 use Rattle.conn_core.specs.declared.place.At.{At}
 use Rattle.conn_core.specs.Holds.{kept}

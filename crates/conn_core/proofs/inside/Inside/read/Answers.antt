@@ -1,5 +1,4 @@
-use Rattle.std.proofs.Common.{◌≡◌, ℕ, ◌+◌, ◌-◌, ◌^◌, ◌<◌, min, List, [], length, refl, sym, ap, subst, ◌∙◌, arith}
-use Rattle.rack_outside.specs.Link.{Seen}
+use Rattle.std.proofs.Common.{◌≡◌, ℕ, ◌+◌, ◌-◌, ◌^◌, ◌<◌, min, length, refl, sym, ap, subst, ◌∙◌}
 use Rattle.talk_core.specs.Counts.{counted_by}
 use Rattle.talk_core.specs.declared.ended.Why.TheVariants as why
 use Rattle.conn_core.specs.declared.place.At.{At}
@@ -9,11 +8,11 @@ use Rattle.conn_core.specs.Holds.{kept}
 use Rattle.conn_core.specs.Inner.{IsFed}
 use Rattle.conn_core.specs.Place.{state_at}
 use Rattle.conn_core.specs.Moves.{FedTo}
-use Rattle.conn_core.specs.Shown.{shows, replied_at, owed_at, why_at}
+use Rattle.conn_core.specs.Shown.{replied_at, owed_at, why_at}
 use Rattle.conn_core.proofs.MoveLemmas.{fed_to, unowed, unowed_fed}
 use Rattle.conn_core.proofs.PlaceLemmas.{stands_place}
-use Rattle.conn_core.proofs.ReadLemmas.{took_in, not_yet, read_end, read_failed}
-use Rattle.conn_core.proofs.ShownLemmas.{appended_nil, counted_sum, moved_by_read, nothing_came, FedShown, fed_shown}
+use Rattle.conn_core.proofs.ReadLemmas.{took_in, read_end, read_failed}
+use Rattle.conn_core.proofs.ShownLemmas.{counted_sum, moved_by_read, nothing_came, FedShown, fed_shown}
 use Rattle.conn_core.proofs.inside.Inside.read.Goals as goal
 
 pub returns-in-Bytes-clause-holds : goal.returns-in-Bytes-clause-holds

@@ -1,4 +1,4 @@
-use Rattle.std.proofs.Common.{◌≡◌, ◌++◌, ℕ, List, [], refl, sym, ap, ◌∙◌}
+use Rattle.std.proofs.Common.{◌≡◌, ◌++◌, ℕ, List, refl, sym, ap, ◌∙◌}
 use Rattle.reply_framing.specs.Fault.{fault_reply}
 use Rattle.circular_buffer.specs.Buffer.{Buffer}
 use Rattle.conn_core.specs.declared.place.At.TheVariants as at

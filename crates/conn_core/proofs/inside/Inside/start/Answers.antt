@@ -1,4 +1,4 @@
-use Rattle.std.proofs.Common.{◌≡◌, ◌+◌, ◌-◌, ◌≤◌, ℕ, List, refl, arith, inl, inr}
+use Rattle.std.proofs.Common.{◌≡◌, ◌-◌, refl, arith, inl, inr}
 use Rattle.conn_core.specs.Shown.{shows}
 use Rattle.conn_core.proofs.MovingLemmas.{wants_memory}
 use Rattle.conn_core.proofs.RetellLemmas.{no_run}

@@ -1,4 +1,4 @@
-use Rattle.std.proofs.Common.{◌≡◌, ◌+◌, ◌-◌, ◌≤◌, false, ltb, refl, arith, ap, ◌∙◌}
+use Rattle.std.proofs.Common.{◌≡◌, ◌+◌, ◌≤◌, false, ltb, refl, arith, ap, ◌∙◌}
 use Rattle.conn_core.specs.declared.left.Left.{Left}
 use Rattle.conn_core.specs.Inner.{left_at}
 use Rattle.conn_core.specs.Shown.{shows, replied_at}

@@ -1,23 +1,19 @@
-use Rattle.std.proofs.Common.{◌≡◌, ◌<◌, ◌≤◌, ◌==◌, ℕ, List, [], length, take, drop, true, false, refl, sym, ap, subst, ◌∙◌, arith}
+use Rattle.std.proofs.Common.{◌≡◌, ◌≤◌, ℕ, List, [], length, take, refl, sym, ap, subst, ◌∙◌, arith}
 use Rattle.std.proofs.lemmas.Bool.Decides.{nat_tests}
 use Rattle.std.proofs.lemmas.List.{nil_from_length}
-use Rattle.rack_outside.specs.Link.{Seen}
 use Rattle.rack_outside.specs.declared.link.LinkWrite.TheVariants as write
 use Rattle.talk_core.specs.declared.ended.Why.TheVariants as why
 use Rattle.conn_core.specs.declared.place.At.{At}
 use Rattle.conn_core.specs.declared.place.At.TheVariants as at
-use Rattle.conn_core.specs.declared.state.State.TheVariants as state
-use Rattle.conn_core.specs.Calls.{TurnEnds, IsOfFlush}
-use Rattle.conn_core.specs.Holds.{kept, StandsAt}
-use Rattle.conn_core.specs.Inner.{SaysOn}
+use Rattle.conn_core.specs.Holds.{kept}
 use Rattle.conn_core.specs.Moves.{ring_room}
 use Rattle.conn_core.specs.Place.{state_at}
-use Rattle.conn_core.specs.Shown.{shows, replied_at, owed_at, why_at}
+use Rattle.conn_core.specs.Shown.{owed_at, why_at}
 use Rattle.conn_core.specs.Steps.{CompletesTo}
 use Rattle.conn_core.proofs.CompleteLemmas.{completes_hold}
 use Rattle.conn_core.proofs.PlaceLemmas.{stands_place}
 use Rattle.conn_core.proofs.SaidLemmas.{moved_by_write, filled_says, filled_ring, filled_state, SaidShown, said_on, said_over, said_whole, waiting_shown}
-use Rattle.conn_core.proofs.SayLemmas.{took, untaken, write_failed, write_lacks, with_ring}
+use Rattle.conn_core.proofs.SayLemmas.{took, write_failed, with_ring}
 use Rattle.conn_core.proofs.MoveLemmas.{fills_front, owed_left, filled_shown, took_on, TookAll, took_all}
 use Rattle.conn_core.proofs.SaysLemmas.{wrote_once}
 use Rattle.conn_core.proofs.inside.Inside.write.Goals as goal
