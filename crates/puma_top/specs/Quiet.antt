@@ -81,7 +81,7 @@ pub record ServedInPart (hijack : Bool) (name : List ℕ) (old new : Seen) : Typ
   pub good : IsGoodStack name stack old.files new.files
   pub served : ServedPart (record { stack = stack; hijack = hijack }) new.source new.sink
 
--- the connection gave more bytes than are taken
+-- the connection gave as many bytes as are taken of one
 pub record CutShort (hijack : Bool) (name : List ℕ) (old new : Seen) : Type 0 where
   pub stack : Tree App
   pub good : IsGoodStack name stack old.files new.files
