@@ -217,6 +217,7 @@ hex_short high low rest read f e = more_short (4 + length rest) (suc (suc (suc (
 
 mutual
   unfolding text.spelled
+
   spelled_short : (word read : List ℕ) → text.spelled word ≡ Some read → Short (length word) read
   spelled_short [] read e = nothing_short read e
   spelled_short (b ∷ rest) read e = next_short (b == 92) b rest read (spelled_short rest) (spelled_behind_short rest) e

@@ -71,8 +71,8 @@ front_again [] h first e = cc e
 front_again (x ∷ p) h first e =
     let same : x ∷ p ≡ place_text (x ∷ p) = sym (ap (λ w. if w then (x ∷ p) ++ 47 ∷ [] else x ∷ p) e) in
     let reads : place_of (x ∷ p) ≡ Some (x ∷ p) =
-      ap (λ s. if s then Some (without_slash (x ∷ p)) else None) first
-      ∙ ap (λ s. Some (if s then take (length (x ∷ p) - 1) (x ∷ p) else x ∷ p)) (not_slash (last_byte (x ∷ p)) e) in
+    ap (λ s. if s then Some (without_slash (x ∷ p)) else None) first
+    ∙ ap (λ s. Some (if s then take (length (x ∷ p) - 1) (x ∷ p) else x ∷ p)) (not_slash (last_byte (x ∷ p)) e) in
     record {
       bytes = subst (λ (t : List ℕ). AllBytes t) same (front_bytes (x ∷ p) 47 h);
       size = subst (λ (t : List ℕ). length (escaped t) ≤ length (escaped ((x ∷ p) ++ 47 ∷ []))) same (escaped_more x p 47);

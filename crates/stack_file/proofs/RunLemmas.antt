@@ -21,96 +21,11 @@ use Rattle.stack_file.proofs.EscapeLemmas.{AllVisible, IsWord, AllBytes, IsShort
 use Rattle.stack_file.proofs.UseLemmas.{AreRead, are_read, MaySay, use_may, map_may, end_may, cascade_may, verb_said, written_says}
 use Rattle.stack_file.proofs.WalkLemmas.{run_text}
 use Rattle.stack_file.proofs.WordLemmas.{AllWords, total, by_words, Verb, used, mapped, ended, ran, tried, unknown}
+use Rattle.stack_file.proofs.NumberLemmas.{AppAgain, run_says, HeadRead, head_read, NumberFirst, number_first, InRange, status_parts, length_parts, read_number}
 
 both : (a b : Bool) → a && b ≡ true → (a ≡ true) × (b ≡ true)
 both true b e = (refl, e)
 both false b e = cc e
-
--- the words that are written for an endpoint
-pub record AppAgain (app : App) : Type 0 where
-  pub size : 4 + total (app_words app) ≤ 4097
-  pub are : AllWords (app_words app)
-  pub says : run_line (app_words app) ≡ RunLine app
-
-run_says : (name : List ℕ) (ws texts : List (List ℕ)) (app : App) → texts_of ws ≡ Some texts → app_of name texts ≡ Ok app → run_line (name ∷ ws) ≡ RunLine app
-run_says name ws texts app e f = ap (λ o. by_texts RunLine (λ ts. app_of name ts) ws o) e ∙ ap (λ r. named RunLine r) f
-
--- the first word and its text
-pub record HeadRead (ws : List (List ℕ)) (t : List ℕ) (ts : List (List ℕ)) : Type 0 where
-  pub word : List ℕ
-  pub more : List (List ℕ)
-  pub is : ws ≡ word ∷ more
-  pub short : IsShort word t
-  pub rest : AreRead more ts
-
-head_read : (ws : List (List ℕ)) (t : List ℕ) (ts : List (List ℕ)) → texts_of ws ≡ Some (t ∷ ts) → HeadRead ws t ts
-head_read [] t ts e = cc e
-head_read (word ∷ more) t ts e = by_first (unescaped word) (texts_of more) (escaped_short word) (are_read more) e
-  where
-    by_first : (o : Option (List ℕ)) (r : Option (List (List ℕ))) → ((u : List ℕ) → o ≡ Some u → IsShort word u) → ((us : List (List ℕ)) → r ≡ Some us → AreRead more us) → with_text o r ≡ Some (t ∷ ts) → HeadRead (word ∷ more) t ts
-    by_first None r f g h = cc h
-    by_first (Some u) None f g h = cc h
-    by_first (Some u) (Some us) f g h =
-        let first : u ≡ t = cc h in
-        let others : us ≡ ts = cc h in
-        record { word = word; more = more; is = refl; short = f t (ap (λ x. Some x) first); rest = g ts (ap (λ x. Some x) others) }
-
--- a number before texts
-pub record NumberFirst (ws : List (List ℕ)) (n : ℕ) (ts : List (List ℕ)) : Type 0 where
-  pub size : total (decimal n ∷ arguments ts) ≤ total ws
-  pub are : AllWords (decimal n ∷ arguments ts)
-  pub again : texts_of (decimal n ∷ arguments ts) ≡ Some (decimal n ∷ ts)
-
-number_first : (ws : List (List ℕ)) (t : List ℕ) (n : ℕ) (ts : List (List ℕ)) → texts_of ws ≡ Some (t ∷ ts) → decimal_number t ≡ Some n → n < 10 ^ 64 → NumberFirst ws n ts
-number_first ws t n ts e f small =
-    let h = head_read ws t ts e in
-    let count = h.short.count in
-    let short = decimal_short t n f small in
-    let rest = h.rest.size in
-    let all : total ws ≡ suc (length h.word) + total h.more = ap (λ x. total x) h.is in
-    record {
-      size = omega (arith, count, short, rest, all);
-      are = (decimal_word n small, h.rest.are);
-      again = ap (λ o. with_text o (texts_of (arguments ts))) (decimal_again n small) ∙ ap (λ o. with_text (Some (decimal n)) o) h.rest.again;
-    }
-
-pub record InRange (f : ℕ → Option ℕ) (t : List ℕ) (n : ℕ) : Type 0 where
-  pub number : decimal_number t ≡ Some n
-  pub within : f n ≡ Some n
-  pub small : n < 1000001
-
-status_parts : (t : List ℕ) (n : ℕ) → status_of t ≡ Some n → InRange in_status t n
-status_parts t n e = by_number (decimal_number t) refl e
-  where
-    by_range : (m : ℕ) (c : Bool) → decimal_number t ≡ Some m → nat_le 100 m && nat_le m 999 ≡ c → (if c then Some m else None) ≡ Some n → InRange in_status t n
-    by_range m true is k f =
-        let same : m ≡ n = cc f in
-        let high = leb-true m 999 (both (nat_le 100 m) (nat_le m 999) k).1 in
-        subst (λ (x : ℕ). InRange in_status t x) same (record { number = is; within = ap (λ b. if b then Some m else None) k; small = omega (arith, high) })
-    by_range m false is k f = cc f
-
-    by_number : (o : Option ℕ) → decimal_number t ≡ o → option_and_then in_status o ≡ Some n → InRange in_status t n
-    by_number None is f = cc f
-    by_number (Some m) is f = by_range m (nat_le 100 m && nat_le m 999) is refl f
-
-length_parts : (t : List ℕ) (n : ℕ) → length_of t ≡ Some n → InRange in_length t n
-length_parts t n e = by_number (decimal_number t) refl e
-  where
-    by_range : (m : ℕ) (c : Bool) → decimal_number t ≡ Some m → nat_le m 1_000_000 ≡ c → (if c then Some m else None) ≡ Some n → InRange in_length t n
-    by_range m true is k f =
-        let same : m ≡ n = cc f in
-        let high = leb-true m 1_000_000 k in
-        subst (λ (x : ℕ). InRange in_length t x) same (record { number = is; within = ap (λ b. if b then Some m else None) k; small = omega (arith, high) })
-    by_range m false is k f = cc f
-
-    by_number : (o : Option ℕ) → decimal_number t ≡ o → option_and_then in_length o ≡ Some n → InRange in_length t n
-    by_number None is f = cc f
-    by_number (Some m) is f = by_range m (nat_le m 1_000_000) is refl f
-
-read_number : (f : ℕ → Option ℕ) (t : List ℕ) (n : ℕ) → InRange f t n → option_and_then f (decimal_number (decimal n)) ≡ Some n
-read_number f t n r =
-    let small = r.small in
-    ap (λ o. option_and_then f o) (decimal_number-decimal n (omega (arith, small))) ∙ r.within
 
 visible_text : AllVisible (codes "text")
 visible_text = search rules
@@ -315,7 +230,7 @@ late_again ws t ts n fits e r =
       size = subst (λ (x : List (List ℕ)). 4 + total (codes "late" ∷ x) ≤ 4097) same (omega (arith, fits, size));
       are = (record { some = omega arith; visible = visible_late }, subst (λ (x : List (List ℕ)). AllWords x) same first.are);
       says = subst (λ (x : List (List ℕ)). run_line (codes "late" ∷ x) ≡ RunLine (Late n (unmarked ts) (is_marked ts))) same
-      (run_says (codes "late") (decimal n ∷ arguments ts) (decimal n ∷ ts) (Late n (unmarked ts) (is_marked ts)) first.again (late_made n t ts r));
+          (run_says (codes "late") (decimal n ∷ arguments ts) (decimal n ∷ ts) (Late n (unmarked ts) (is_marked ts)) first.again (late_made n t ts r));
     }
 
 late_formed : (ws : List (List ℕ)) (t : List ℕ) (ts : List (List ℕ)) (app : App) (o : Option ℕ) → length_of t ≡ o → 9 + total ws ≤ 4097 → texts_of ws ≡ Some (t ∷ ts) → formed (option_map (λ m. Late m (unmarked ts) (is_marked ts)) o) ≡ Ok app → AppAgain app
