@@ -1,14 +1,14 @@
 -- The lines `map` that are written for what was read.
-use Rattle.std.proofs.Common.{◌≡◌, ℕ, suc, zero, ◌+◌, ◌-◌, ◌<◌, ◌≤◌, Bool, true, false, List, [], ◌∷◌, ◌++◌, length, take, Option, None, Some, refl, sym, ap, ◌∙◌, subst, length-append, arith, rules}
-use Rattle.std.specs.Prelude.{◌==◌, if◌then◌else◌, ⊤, codes, slice_get}
+use Rattle.std.proofs.Common.{◌≡◌, ℕ, suc, ◌+◌, ◌-◌, ◌≤◌, Bool, true, false, List, [], ◌∷◌, ◌++◌, length, take, Option, None, Some, refl, sym, ap, ◌∙◌, subst, length-append, arith, rules}
+use Rattle.std.specs.Prelude.{◌==◌, if◌then◌else◌, codes, slice_get}
 use Rattle.std.specs.List.{flat_map}
 use Rattle.std.proofs.Math.Seq.{take-append_seam}
 use Rattle.std.proofs.lemmas.Bool.{eqb-true}
 use Rattle.rack_text.specs.Escaped.{unescaped, escaped}
 use Rattle.rack_text.specs.Escaped as text
-use Rattle.stack_file.specs.Canon.{spaced, wants_slash, place_text}
+use Rattle.stack_file.specs.Canon.{wants_slash, place_text}
 use Rattle.stack_file.specs.Lines.{words}
-use Rattle.stack_file.specs.Said.{Said, Nothing, UseLine, RunLine, MapLine, CascadeLine, EndLine, Breaks, said, said_by_words, verb_line, map_line, text_placed, placed, place_of, last_byte, is_slash, without_slash}
+use Rattle.stack_file.specs.Said.{Said, MapLine, said, said_by_words, verb_line, map_line, text_placed, placed, place_of, last_byte, is_slash, without_slash}
 use Rattle.stack_file.proofs.EscapeLemmas.{AllVisible, IsWord, AllBytes, IsShort, escaped_short, escaped_word, escaped_again}
 use Rattle.stack_file.proofs.UseLemmas.{MaySay, use_may, run_may, end_may, cascade_may, verb_said, written_says}
 use Rattle.stack_file.proofs.WalkLemmas.{map_text}

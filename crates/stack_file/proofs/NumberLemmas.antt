@@ -1,26 +1,17 @@
 -- Numbers and texts behind `run`, as they are written for what was read.
-use Rattle.std.proofs.Common.{◌≡◌, ℕ, suc, ◌+◌, ◌-◌, ◌^◌, ◌<◌, ◌≤◌, Bool, true, false, List, [], ◌∷◌, ◌++◌, length, map, take, Option, None, Some, Result, Ok, Err, decimal, refl, sym, ap, ◌∙◌, subst, length-append, append-nil, arith, rules}
-use Rattle.std.specs.Prelude.{◌&&◌, ◌||◌, ◌==◌, nat_le, if◌then◌else◌, ⊤, codes, bytes_eq, option_map, option_and_then, slice_get}
-use Rattle.std.proofs.Math.Seq.{take-append_seam}
-use Rattle.std.proofs.lemmas.Bool.{leb-true, eqb-true}
-use Rattle.std.proofs.lemmas.Slice.Eq.{bytes_eq-Decides}
+use Rattle.std.proofs.Common.{◌≡◌, ℕ, suc, ◌+◌, ◌^◌, ◌<◌, ◌≤◌, Bool, true, false, List, [], ◌∷◌, length, Option, None, Some, Ok, decimal, refl, ap, ◌∙◌, subst, arith}
+use Rattle.std.specs.Prelude.{◌&&◌, nat_le, if◌then◌else◌, option_and_then}
+use Rattle.std.proofs.lemmas.Bool.{leb-true}
 use Rattle.rack_text.specs.Decimal.{decimal_number}
-use Rattle.rack_text.specs.Escaped.{unescaped, escaped}
-use Rattle.rack_text.specs.Escaped as text
+use Rattle.rack_text.specs.Escaped.{unescaped}
 use Rattle.rack_text.proofs.CallerLemmas.{decimal_number-decimal}
 use Rattle.stock_apps.specs.declared.app.App.{App}
-use Rattle.stock_apps.specs.declared.app.App.TheVariants.{Text, Echo, Env, Pieces, Stream, Cookies, Bad, Raise, Late}
-use Rattle.stock_apps.specs.declared.words.WordsFault.{WordsFault}
-use Rattle.stock_apps.specs.declared.words.WordsFault.TheVariants.{Unknown, Count, Form}
-use Rattle.stock_apps.specs.Words.{in_status, status_of, in_length, length_of, in_rules, rule_of, rules_of, is_mark, is_marked, unmarked, formed, text_words, bare_words, pieces_words, cookies_words, bad_words, raise_words, late_words, name_of, named_words, app_of}
-use Rattle.stock_apps.specs.Words as apps
-use Rattle.stack_file.specs.Canon.{spaced, arguments, mark, app_words}
-use Rattle.stack_file.specs.Lines.{words}
-use Rattle.stack_file.specs.Said.{Said, Nothing, UseLine, RunLine, MapLine, CascadeLine, EndLine, Breaks, said, said_by_words, verb_line, with_text, texts_of, named, ill_formed, by_texts, run_line}
-use Rattle.stack_file.proofs.EscapeLemmas.{AllVisible, IsWord, AllBytes, IsShort, escaped_short, escaped_word, escaped_again, decimal_short, decimal_word, decimal_again}
-use Rattle.stack_file.proofs.UseLemmas.{AreRead, are_read, MaySay, use_may, map_may, end_may, cascade_may, verb_said, written_says}
-use Rattle.stack_file.proofs.WalkLemmas.{run_text}
-use Rattle.stack_file.proofs.WordLemmas.{AllWords, total, by_words, Verb, used, mapped, ended, ran, tried, unknown}
+use Rattle.stock_apps.specs.Words.{in_status, status_of, in_length, length_of, app_of}
+use Rattle.stack_file.specs.Canon.{arguments, app_words}
+use Rattle.stack_file.specs.Said.{RunLine, with_text, texts_of, named, by_texts, run_line}
+use Rattle.stack_file.proofs.EscapeLemmas.{IsShort, escaped_short, decimal_short, decimal_word, decimal_again}
+use Rattle.stack_file.proofs.UseLemmas.{AreRead, are_read}
+use Rattle.stack_file.proofs.WordLemmas.{AllWords, total}
 
 both : (a b : Bool) → a && b ≡ true → (a ≡ true) × (b ≡ true)
 both true b e = (refl, e)

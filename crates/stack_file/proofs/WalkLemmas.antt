@@ -1,5 +1,5 @@
 -- What is written of a plan is read again, where each of its lines is.
-use Rattle.std.proofs.Common.{◌≡◌, ℕ, suc, ◌+◌, ◌≤◌, max, Bool, true, false, List, [], ◌∷◌, ◌++◌, length, inl, inr, Option, None, Some, Result, Ok, Err, refl, sym, ap, ◌∙◌, subst, append_assoc, append-nil, length-append, add_assoc, arith}
+use Rattle.std.proofs.Common.{◌≡◌, ℕ, suc, ◌+◌, ◌≤◌, Bool, true, false, List, [], ◌∷◌, ◌++◌, length, inl, inr, None, Ok, Err, refl, sym, ap, ◌∙◌, append_assoc, append-nil, arith}
 use Rattle.std.specs.Prelude.{◌&&◌, ◌==◌, nat_le, if◌then◌else◌, ⊤, codes}
 use Rattle.std.specs.List.{list_all}
 use Rattle.std.proofs.lemmas.Bool.{le-leb, leb-true, cases_Bool, eqb-true}
@@ -11,9 +11,9 @@ use Rattle.stock_apps.specs.declared.app.App.{App}
 use Rattle.stock_middleware.specs.declared.ware.Ware.{Ware}
 use Rattle.stack_file.specs.Canon.{spaced, line, ware_words, app_words, place_text, run_lines, deeper, item_text, plan_text, canonical}
 use Rattle.stack_file.specs.Lines.{before_first, lines, words, is_printable, is_clean, unindented}
-use Rattle.stack_file.specs.Reads.{OpenBlock, AtPlace, InCascade, Standing, at_start, counted, behind_use, behind_run, behind_opening, around_ended, behind_end, stepped, whole, at_end, goes_on, reads_on, reads}
+use Rattle.stack_file.specs.Reads.{OpenBlock, AtPlace, InCascade, Standing, counted, stepped, whole, goes_on, reads_on, reads}
 use Rattle.stack_file.specs.Unbuilt.{all_built, first_unbuilt}
-use Rattle.stack_file.specs.Said.{Said, Nothing, UseLine, RunLine, MapLine, CascadeLine, EndLine, Breaks, said, said_by_words, verb_line}
+use Rattle.stack_file.specs.Said.{Said, UseLine, RunLine, MapLine, CascadeLine, EndLine, Breaks, said, said_by_words, verb_line}
 
 -- the lines that are written, without their margins and line feeds
 abbrev pub use_text : Ware → List ℕ
