@@ -1,5 +1,5 @@
 -- The lines of what was read are read again, and so is what is written of it.
-use Rattle.std.proofs.Common.{◌≡◌, ℕ, ◌+◌, Bool, true, false, List, [], ◌∷◌, ◌++◌, length, Option, None, Some, Result, Ok, Err, refl, sym, ap, ◌∙◌, subst}
+use Rattle.std.proofs.Common.{◌≡◌, ℕ, ◌+◌, Bool, true, false, List, [], ◌∷◌, ◌++◌, length, Option, None, Some, Result, Ok, Err, refl, subst}
 use Rattle.std.specs.Prelude.{◌&&◌, nat_le, if◌then◌else◌, ⊤}
 use Rattle.builder_core.specs.Plan.{Plan, Item, Done, Then, Uses, Holds, EndsAny, plan_of_items}
 use Rattle.builder_core.specs.Plan as plans

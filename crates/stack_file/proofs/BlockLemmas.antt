@@ -1,7 +1,5 @@
 -- A block of the program as a line.
 use Rattle.std.proofs.Common.{◌≡◌, ℕ, List, [], ◌∷◌, ◌++◌, map, refl, ap, ◌∙◌}
-use Rattle.std.specs.Prelude.{Vec}
-use Rattle.std.specs.declared.alloc.Global.{Global}
 use Rattle.builder_core.specs.Plan.{Holds, plan_of_items, item}
 use Rattle.builder_core.specs.declared.steps.Steps.{Steps}
 use Rattle.builder_core.specs.declared.steps.Line.{Line}

@@ -1,11 +1,11 @@
 -- Which plans have an application: with a default each has one, and without a default one that answers itself, or
 -- whose last lines are maps of blocks that have one.
-use Rattle.std.proofs.Common.{◌≡◌, ℕ, Bool, true, false, List, [], ◌∷◌, ◌++◌, Option, None, Some, refl, sym, ap, ◌∙◌, subst}
-use Rattle.std.specs.Prelude.{◌&&◌, ◌||◌, is_some, option_map, option_and_then, ⊤}
+use Rattle.std.proofs.Common.{◌≡◌, ℕ, Bool, true, false, List, [], ◌∷◌, Option, None, Some, refl, sym, ap, ◌∙◌}
+use Rattle.std.specs.Prelude.{◌&&◌, ◌||◌, is_some, option_map, option_and_then}
 use Rattle.builder_core.specs.Tree.{Tree, Calls, Wraps, ByPlace, Tries, Row, NoPlace, Place}
 use Rattle.builder_core.specs.Plan.{Plan, Item, Done, Then, Uses, Holds, EndsAny}
 use Rattle.builder_core.specs.Plan as plans
-use Rattle.builder_core.specs.Build.{Block, Part, Wears, Ends, At, last_end, default_row, places, around, behind, item_part, plan_parts, build_plan}
+use Rattle.builder_core.specs.Build.{Block, Part, At, last_end, places, around, behind, plan_parts, build_plan}
 use Rattle.stock_apps.specs.declared.app.App.{App}
 use Rattle.stock_middleware.specs.declared.ware.Ware.{Ware}
 use Rattle.stack_file.specs.Kept.{is_yes, and_row}

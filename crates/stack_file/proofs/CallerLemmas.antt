@@ -1,10 +1,10 @@
 -- What crates above may cite of this crate's proofs.
-use Rattle.std.proofs.Common.{◌≡◌, ℕ, List, Option, None, Some, Bool, true, false, ◌∙◌, sym, ap, refl, arith}
+use Rattle.std.proofs.Common.{◌≡◌, ℕ, List, Option, None, Some, true, false, ap, refl, arith}
 use Rattle.std.specs.Prelude.{is_some}
 use Rattle.builder_core.specs.Tree.{Tree}
 use Rattle.builder_core.specs.Plan.{Plan}
 use Rattle.builder_core.specs.Build.{build_plan}
-use Rattle.builder_core.specs.Builds.{IsSmall, HasFault, Builds}
+use Rattle.builder_core.specs.Builds.{HasFault, Builds}
 use Rattle.builder_core.specs.declared.steps.BuildFault.{BuildFault}
 use Rattle.builder_core.specs.declared.steps.BuildFault.TheVariants.{TooMany, TooDeep, NoRun, NoMemory}
 use Rattle.stock_apps.specs.declared.app.App.{App}

@@ -1,8 +1,7 @@
 -- The first `end` at which a block has no application.
-use Rattle.std.proofs.Common.{◌≡◌, ℕ, suc, ◌+◌, Bool, true, false, List, [], ◌∷◌, ◌++◌, length, Option, None, Some, refl, sym, ap, ◌∙◌, subst, arith}
+use Rattle.std.proofs.Common.{◌≡◌, ℕ, Bool, true, false, List, [], ◌∷◌, ◌++◌, length, Option, None, Some, refl, sym, ap, ◌∙◌, subst, arith}
 use Rattle.std.specs.Prelude.{◌&&◌, ◌||◌, is_some, unwrap_or, if◌then◌else◌, ⊤}
-use Rattle.std.proofs.lemmas.List.{append-nil}
-use Rattle.builder_core.specs.Tree.{Tree, Calls, Tries}
+use Rattle.builder_core.specs.Tree.{Tree}
 use Rattle.builder_core.specs.Plan.{Plan, Item, Done, Then, Uses, Holds, EndsAny}
 use Rattle.builder_core.specs.Plan as plans
 use Rattle.builder_core.specs.Build.{last_end, behind, places, plan_parts, build_plan}

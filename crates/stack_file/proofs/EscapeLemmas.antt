@@ -1,12 +1,12 @@
 -- What is written of a text is a word, and no longer than a word that it was read from.
-use Rattle.std.proofs.Common.{◌≡◌, ℕ, suc, ◌+◌, ◌*◌, ◌/◌, ◌%◌, ◌^◌, ◌<◌, ◌≤◌, inl, inr, Bool, true, false, List, [], ◌∷◌, ◌++◌, length, Option, None, Some, decimal, refl, sym, ap, ◌∙◌, subst, length-append, arith}
-use Rattle.std.specs.Prelude.{◌&&◌, ◌==◌, nat_le, nat_lt, not, ◌||◌, if◌then◌else◌, ⊤, All, codes, option_map, bytes_eq}
+use Rattle.std.proofs.Common.{◌≡◌, ℕ, suc, ◌+◌, ◌*◌, ◌/◌, ◌%◌, ◌^◌, ◌<◌, ◌≤◌, Bool, true, false, List, [], ◌∷◌, ◌++◌, length, Option, None, Some, decimal, refl, sym, ap, subst, length-append, arith}
+use Rattle.std.specs.Prelude.{◌&&◌, ◌==◌, nat_le, nat_lt, not, ◌||◌, if◌then◌else◌, ⊤, All, codes, bytes_eq}
 use Rattle.std.specs.Char.{digit_value, is_ascii_digit, is_ascii_hexdigit}
 use Rattle.std.specs.Int.{is_in_range}
 use Rattle.std.specs.Fmt.{digit_glyph}
 use Rattle.std.specs.List.{list_all, flat_map}
 use Rattle.std.specs.Str.Parse.{AllDigits}
-use Rattle.std.proofs.lemmas.Bool.{leb-true, eqb-true, cases_Bool, le-ltb, lt-ltb, le-leb, ne_eqb}
+use Rattle.std.proofs.lemmas.Bool.{leb-true, le-ltb, lt-ltb, le-leb, ne_eqb}
 use Rattle.std.proofs.lemmas.Slice.Eq.{bytes_eq-Decides}
 use Rattle.std.proofs.lemmas.Fmt.{decimal_is_IsNumeral_wide, length-decimal-le_wide}
 use Rattle.std.proofs.lemmas.Int.Digits.{digits_value-lt}
@@ -217,6 +217,7 @@ hex_short high low rest read f e = more_short (4 + length rest) (suc (suc (suc (
 
 mutual
   unfolding text.spelled
+
   spelled_short : (word read : List ℕ) → text.spelled word ≡ Some read → Short (length word) read
   spelled_short [] read e = nothing_short read e
   spelled_short (b ∷ rest) read e = next_short (b == 92) b rest read (spelled_short rest) (spelled_behind_short rest) e

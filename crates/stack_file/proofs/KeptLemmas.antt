@@ -1,6 +1,6 @@
 -- What the program keeps, in place of all that the definition keeps, gives the same.
-use Rattle.std.proofs.Common.{◌≡◌, ℕ, suc, ◌+◌, Bool, true, false, List, [], ◌∷◌, ◌++◌, length, map, Option, None, Some, Result, Ok, Err, refl, sym, ap, ◌∙◌, subst, append_assoc, append-nil, length-append, arith}
-use Rattle.std.specs.Prelude.{◌&&◌, ◌||◌, nat_le, if◌then◌else◌, is_some, unwrap_or, ⊤, All}
+use Rattle.std.proofs.Common.{◌≡◌, ℕ, suc, ◌+◌, Bool, true, false, List, [], ◌∷◌, ◌++◌, length, map, Option, None, Some, Result, Ok, Err, refl, sym, ap, ◌∙◌, append_assoc, append-nil, length-append, arith}
+use Rattle.std.specs.Prelude.{◌&&◌, ◌||◌, nat_le, if◌then◌else◌, is_some, ⊤}
 use Rattle.builder_core.specs.Tree.{Tree}
 use Rattle.builder_core.specs.Plan.{Plan, Item, Done, Then, Uses, Holds, EndsAny, plan_of_items}
 use Rattle.builder_core.specs.Plan as plans
@@ -8,12 +8,12 @@ use Rattle.builder_core.specs.Build.{last_end, plan_parts, build_plan}
 use Rattle.stock_apps.specs.declared.app.App.{App}
 use Rattle.stock_middleware.specs.declared.ware.Ware.{Ware}
 use Rattle.stack_file.specs.declared.notes.Notes.{Notes}
-use Rattle.stack_file.specs.Kept.{KeptBlock, KeptPlace, KeptCascade, Kept, noted_use, noted_run, noted_map, kept_count, kept_use, kept_run, kept_opening, kept_around, kept_closing, kept_step, kept_whole, kept_end, kept_goes_on, kept_reads, kept_start, fresh, earlier, lacking, and_row}
+use Rattle.stack_file.specs.Kept.{KeptBlock, KeptPlace, KeptCascade, Kept, noted_use, noted_run, noted_map, kept_count, kept_use, kept_run, kept_opening, kept_around, kept_closing, kept_step, kept_whole, kept_end, kept_goes_on, kept_reads, kept_start, earlier, lacking}
 use Rattle.stack_file.specs.Lines.{lines}
 use Rattle.stack_file.specs.Reads.{OpenBlock, AtPlace, InCascade, Standing, at_start, counted, behind_use, behind_run, behind_opening, around_ended, behind_end, stepped, whole, at_end, goes_on, reads_on, reads}
 use Rattle.stack_file.specs.Said.{Said, Nothing, UseLine, RunLine, MapLine, CascadeLine, EndLine, Breaks, said}
-use Rattle.stack_file.specs.Unbuilt.{default_before, ends_built, item_ends_built, all_built, first_unbuilt}
-use Rattle.stack_file.proofs.BuiltLemmas.{item_answers, plan_answers, plan_row, item_row, plan_suffices}
+use Rattle.stack_file.specs.Unbuilt.{default_before, ends_built, item_ends_built, first_unbuilt}
+use Rattle.stack_file.proofs.BuiltLemmas.{item_answers, plan_answers, plan_row, item_row}
 use Rattle.stack_file.proofs.EndLemmas.{alone_ends, unbuilt_append, block_lacks}
 
 -- one item more, at the end

@@ -1,14 +1,14 @@
 -- The lines `map` that are written for what was read.
-use Rattle.std.proofs.Common.{◌≡◌, ℕ, suc, zero, ◌+◌, ◌-◌, ◌<◌, ◌≤◌, Bool, true, false, List, [], ◌∷◌, ◌++◌, length, take, Option, None, Some, refl, sym, ap, ◌∙◌, subst, length-append, arith, rules}
-use Rattle.std.specs.Prelude.{◌==◌, if◌then◌else◌, ⊤, codes, slice_get}
+use Rattle.std.proofs.Common.{◌≡◌, ℕ, suc, ◌+◌, ◌-◌, ◌≤◌, Bool, true, false, List, [], ◌∷◌, ◌++◌, length, take, Option, None, Some, refl, sym, ap, ◌∙◌, subst, length-append, arith, rules}
+use Rattle.std.specs.Prelude.{◌==◌, if◌then◌else◌, codes, slice_get}
 use Rattle.std.specs.List.{flat_map}
 use Rattle.std.proofs.Math.Seq.{take-append_seam}
 use Rattle.std.proofs.lemmas.Bool.{eqb-true}
 use Rattle.rack_text.specs.Escaped.{unescaped, escaped}
 use Rattle.rack_text.specs.Escaped as text
-use Rattle.stack_file.specs.Canon.{spaced, wants_slash, place_text}
+use Rattle.stack_file.specs.Canon.{wants_slash, place_text}
 use Rattle.stack_file.specs.Lines.{words}
-use Rattle.stack_file.specs.Said.{Said, Nothing, UseLine, RunLine, MapLine, CascadeLine, EndLine, Breaks, said, said_by_words, verb_line, map_line, text_placed, placed, place_of, last_byte, is_slash, without_slash}
+use Rattle.stack_file.specs.Said.{Said, MapLine, said, said_by_words, verb_line, map_line, text_placed, placed, place_of, last_byte, is_slash, without_slash}
 use Rattle.stack_file.proofs.EscapeLemmas.{AllVisible, IsWord, AllBytes, IsShort, escaped_short, escaped_word, escaped_again}
 use Rattle.stack_file.proofs.UseLemmas.{MaySay, use_may, run_may, end_may, cascade_may, verb_said, written_says}
 use Rattle.stack_file.proofs.WalkLemmas.{map_text}
@@ -71,8 +71,8 @@ front_again [] h first e = cc e
 front_again (x ∷ p) h first e =
     let same : x ∷ p ≡ place_text (x ∷ p) = sym (ap (λ w. if w then (x ∷ p) ++ 47 ∷ [] else x ∷ p) e) in
     let reads : place_of (x ∷ p) ≡ Some (x ∷ p) =
-      ap (λ s. if s then Some (without_slash (x ∷ p)) else None) first
-      ∙ ap (λ s. Some (if s then take (length (x ∷ p) - 1) (x ∷ p) else x ∷ p)) (not_slash (last_byte (x ∷ p)) e) in
+    ap (λ s. if s then Some (without_slash (x ∷ p)) else None) first
+    ∙ ap (λ s. Some (if s then take (length (x ∷ p) - 1) (x ∷ p) else x ∷ p)) (not_slash (last_byte (x ∷ p)) e) in
     record {
       bytes = subst (λ (t : List ℕ). AllBytes t) same (front_bytes (x ∷ p) 47 h);
       size = subst (λ (t : List ℕ). length (escaped t) ≤ length (escaped ((x ∷ p) ++ 47 ∷ []))) same (escaped_more x p 47);

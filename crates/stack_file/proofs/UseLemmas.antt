@@ -1,6 +1,6 @@
 -- The lines `use` that are written for what was read.
-use Rattle.std.proofs.Common.{◌≡◌, ℕ, suc, ◌+◌, ◌<◌, ◌≤◌, Bool, true, false, List, [], ◌∷◌, ◌++◌, length, map, Option, None, Some, Result, Ok, Err, refl, sym, ap, ◌∙◌, subst, length-append, arith, rules}
-use Rattle.std.specs.Prelude.{◌&&◌, ◌==◌, if◌then◌else◌, ⊤, codes, bytes_eq}
+use Rattle.std.proofs.Common.{◌≡◌, ℕ, suc, ◌+◌, ◌≤◌, Bool, true, false, List, [], ◌∷◌, ◌++◌, length, Option, None, Some, Result, Ok, Err, refl, sym, ap, ◌∙◌, subst, length-append, arith, rules}
+use Rattle.std.specs.Prelude.{if◌then◌else◌, ⊤, codes, bytes_eq}
 use Rattle.std.proofs.lemmas.Slice.Eq.{bytes_eq-Decides}
 use Rattle.rack_text.specs.Escaped.{unescaped, escaped}
 use Rattle.rack_text.specs.Escaped as text
@@ -16,7 +16,7 @@ use Rattle.stack_file.specs.Said.{Said, Nothing, UseLine, RunLine, MapLine, Casc
 use Rattle.stack_file.specs.Wares.{ware_of, without_arguments, type_of, header_of}
 use Rattle.stack_file.proofs.EscapeLemmas.{AllVisible, IsWord, AllBytes, IsShort, escaped_short, escaped_word, escaped_again}
 use Rattle.stack_file.proofs.WalkLemmas.{use_text}
-use Rattle.stack_file.proofs.WordLemmas.{AllWords, said_words, total, spaced_size, ByWords, by_words, Verb, used, mapped, ended, ran, tried, unknown, verb_cases}
+use Rattle.stack_file.proofs.WordLemmas.{AllWords, said_words, total, spaced_size, by_words, Verb, used, mapped, ended, ran, tried, unknown, verb_cases}
 
 -- a written line is short enough, and says what its words say
 pub written_says : (verb : List ℕ) (ws : List (List ℕ)) (what : Said) → IsWord verb → AllWords ws → suc (length verb) + total ws ≤ 4097 → said_by_words (verb ∷ ws) ≡ what → said (verb ++ spaced ws) ≡ what

@@ -1,5 +1,5 @@
 -- What is written of a plan is read again, where each of its lines is.
-use Rattle.std.proofs.Common.{◌≡◌, ℕ, suc, ◌+◌, ◌≤◌, max, Bool, true, false, List, [], ◌∷◌, ◌++◌, length, inl, inr, Option, None, Some, Result, Ok, Err, refl, sym, ap, ◌∙◌, subst, append_assoc, append-nil, length-append, add_assoc, arith}
+use Rattle.std.proofs.Common.{◌≡◌, ℕ, suc, ◌+◌, ◌≤◌, Bool, true, false, List, [], ◌∷◌, ◌++◌, length, inl, inr, None, Ok, Err, refl, sym, ap, ◌∙◌, append_assoc, append-nil, arith}
 use Rattle.std.specs.Prelude.{◌&&◌, ◌==◌, nat_le, if◌then◌else◌, ⊤, codes}
 use Rattle.std.specs.List.{list_all}
 use Rattle.std.proofs.lemmas.Bool.{le-leb, leb-true, cases_Bool, eqb-true}
@@ -11,9 +11,9 @@ use Rattle.stock_apps.specs.declared.app.App.{App}
 use Rattle.stock_middleware.specs.declared.ware.Ware.{Ware}
 use Rattle.stack_file.specs.Canon.{spaced, line, ware_words, app_words, place_text, run_lines, deeper, item_text, plan_text, canonical}
 use Rattle.stack_file.specs.Lines.{before_first, lines, words, is_printable, is_clean, unindented}
-use Rattle.stack_file.specs.Reads.{OpenBlock, AtPlace, InCascade, Standing, at_start, counted, behind_use, behind_run, behind_opening, around_ended, behind_end, stepped, whole, at_end, goes_on, reads_on, reads}
+use Rattle.stack_file.specs.Reads.{OpenBlock, AtPlace, InCascade, Standing, counted, stepped, whole, goes_on, reads_on, reads}
 use Rattle.stack_file.specs.Unbuilt.{all_built, first_unbuilt}
-use Rattle.stack_file.specs.Said.{Said, Nothing, UseLine, RunLine, MapLine, CascadeLine, EndLine, Breaks, said, said_by_words, verb_line}
+use Rattle.stack_file.specs.Said.{Said, UseLine, RunLine, MapLine, CascadeLine, EndLine, Breaks, said, said_by_words, verb_line}
 
 -- the lines that are written, without their margins and line feeds
 abbrev pub use_text : Ware → List ℕ
@@ -138,7 +138,7 @@ runs_lead [] done m rest n steps outer h says few deep =
       line = n;
       ends = [];
       leads = ap (λ k. reads_on (lines rest) n (record { steps = k; inner = InCascade done; outer = outer })) zero_more
-      ∙ ap (λ more. reads_on (lines rest) n (record { steps = steps + 0; inner = InCascade more; outer = outer })) (sym (append-nil done));
+          ∙ ap (λ more. reads_on (lines rest) n (record { steps = steps + 0; inner = InCascade more; outer = outer })) (sym (append-nil done));
     }
 runs_lead (a ∷ apps) done m rest n steps outer h says few deep =
     let more = runs_lead apps (done ++ a ∷ []) m rest (n + 1) (steps + 1) outer h says.1 (omega (arith, few)) deep in
@@ -148,10 +148,10 @@ runs_lead (a ∷ apps) done m rest n steps outer h says few deep =
       line = more.line;
       ends = more.ends;
       leads = ap (λ t. reads_on (lines t) n (record { steps = steps; inner = InCascade done; outer = outer })) (append_assoc (line m (codes "run") (app_words a)) (run_lines apps m) rest ∙ line_more m (codes "run") (app_words a) (run_lines apps m ++ rest))
-      ∙ line_read m (run_text a) (run_lines apps m ++ rest) (RunLine a) n (record { steps = steps; inner = InCascade done; outer = outer }) next h says.0 (λ e. cc e) (counted_fits steps (InCascade (done ++ a ∷ [])) outer (omega (arith, few)) deep)
-      ∙ more.leads
-      ∙ ap (λ k. reads_on (lines rest) more.line (record { steps = k; inner = InCascade ((done ++ a ∷ []) ++ apps); outer = outer })) count
-      ∙ ap (λ both. reads_on (lines rest) more.line (record { steps = steps + suc (length apps); inner = InCascade both; outer = outer })) (append_assoc done (a ∷ []) apps);
+          ∙ line_read m (run_text a) (run_lines apps m ++ rest) (RunLine a) n (record { steps = steps; inner = InCascade done; outer = outer }) next h says.0 (λ e. cc e) (counted_fits steps (InCascade (done ++ a ∷ [])) outer (omega (arith, few)) deep)
+          ∙ more.leads
+          ∙ ap (λ k. reads_on (lines rest) more.line (record { steps = k; inner = InCascade ((done ++ a ∷ []) ++ apps); outer = outer })) count
+          ∙ ap (λ both. reads_on (lines rest) more.line (record { steps = steps + suc (length apps); inner = InCascade both; outer = outer })) (append_assoc done (a ∷ []) apps);
     }
 
 abbrev ItemLeads : Item App → Type 0
@@ -169,8 +169,8 @@ use_leads ware m rest n steps place items ends outer h says few deep = record {
   line = n + 1;
   ends = ends;
   leads = ap (λ t. reads_on (lines t) n (record { steps = steps; inner = AtPlace place items ends; outer = outer })) (line_more m (codes "use") (ware_words ware) rest)
-  ∙ line_read m (use_text ware) rest (UseLine ware) n (record { steps = steps; inner = AtPlace place items ends; outer = outer }) (record { steps = steps + 1; inner = AtPlace place (items ++ Uses ware ∷ []) ends; outer = outer }) h says (λ e. cc e)
-  (counted_fits steps (AtPlace place (items ++ Uses ware ∷ []) ends) outer few (omega (arith, deep)));
+      ∙ line_read m (use_text ware) rest (UseLine ware) n (record { steps = steps; inner = AtPlace place items ends; outer = outer }) (record { steps = steps + 1; inner = AtPlace place (items ++ Uses ware ∷ []) ends; outer = outer }) h says (λ e. cc e)
+      (counted_fits steps (AtPlace place (items ++ Uses ware ∷ []) ends) outer few (omega (arith, deep)));
 }
 
 run_leads : (app : App) → ItemLeads (plans.Ends app)
@@ -178,8 +178,8 @@ run_leads app m rest n steps place items ends outer h says few deep = record {
   line = n + 1;
   ends = ends;
   leads = ap (λ t. reads_on (lines t) n (record { steps = steps; inner = AtPlace place items ends; outer = outer })) (line_more m (codes "run") (app_words app) rest)
-  ∙ line_read m (run_text app) rest (RunLine app) n (record { steps = steps; inner = AtPlace place items ends; outer = outer }) (record { steps = steps + 1; inner = AtPlace place (items ++ plans.Ends app ∷ []) ends; outer = outer }) h says (λ e. cc e)
-  (counted_fits steps (AtPlace place (items ++ plans.Ends app ∷ []) ends) outer few (omega (arith, deep)));
+      ∙ line_read m (run_text app) rest (RunLine app) n (record { steps = steps; inner = AtPlace place items ends; outer = outer }) (record { steps = steps + 1; inner = AtPlace place (items ++ plans.Ends app ∷ []) ends; outer = outer }) h says (λ e. cc e)
+      (counted_fits steps (AtPlace place (items ++ plans.Ends app ∷ []) ends) outer few (omega (arith, deep)));
 }
 
 -- a block between the line that opens it and its `end`
@@ -207,10 +207,10 @@ cascade_leads apps m rest n steps place items ends outer h says few deep =
       line = runs.line + 1;
       ends = ends ++ runs.line ∷ [];
       leads = ap (λ t. reads_on (lines t) n s) (block_more m (codes "cascade") [] (run_lines apps (deeper m)) rest)
-      ∙ line_read m (codes "cascade") (run_lines apps (deeper m) ++ ending) CascadeLine n s opened h cascade_said (λ e. cc e) (counted_fits steps (InCascade []) (around ∷ outer) (omega (arith, few)) (omega (arith, deep)))
-      ∙ runs.leads
-      ∙ line_read m (codes "end") rest EndLine runs.line filled closed h end_said (λ e. cc e) refl
-      ∙ ap (λ k. reads_on (lines rest) (runs.line + 1) (record { steps = k; inner = AtPlace place (items ++ EndsAny apps ∷ []) (ends ++ runs.line ∷ []); outer = outer })) count;
+          ∙ line_read m (codes "cascade") (run_lines apps (deeper m) ++ ending) CascadeLine n s opened h cascade_said (λ e. cc e) (counted_fits steps (InCascade []) (around ∷ outer) (omega (arith, few)) (omega (arith, deep)))
+          ∙ runs.leads
+          ∙ line_read m (codes "end") rest EndLine runs.line filled closed h end_said (λ e. cc e) refl
+          ∙ ap (λ k. reads_on (lines rest) (runs.line + 1) (record { steps = k; inner = AtPlace place (items ++ EndsAny apps ∷ []) (ends ++ runs.line ∷ []); outer = outer })) count;
     }
 
 map_leads : (inside : List ℕ) (block : Plan App) → PlanLeads block → ItemLeads (Holds inside block)
@@ -228,11 +228,11 @@ map_leads inside block more m rest n steps place items ends outer h says few dee
       line = lead.line + 1;
       ends = es;
       leads = ap (λ t. reads_on (lines t) n s) (block_more m (codes "map") (escaped (place_text inside) ∷ []) (plan_text block (deeper m)) rest)
-      ∙ line_read m (map_text inside) (plan_text block (deeper m) ++ ending) (MapLine inside) n s opened h says.0 (λ e. cc e) (counted_fits steps (AtPlace inside [] []) (around ∷ outer) (omega (arith, few)) (omega (arith, deep)))
-      ∙ lead.leads
-      ∙ line_read m (codes "end") rest EndLine lead.line filled closed h end_said (λ e. cc e) refl
-      ∙ ap (λ k. reads_on (lines rest) (lead.line + 1) (record { steps = k; inner = AtPlace place (items ++ Holds inside (plan_of_items (items_of block)) ∷ []) es; outer = outer })) count
-      ∙ ap (λ p. reads_on (lines rest) (lead.line + 1) (record { steps = steps + (1 + plan_size block); inner = AtPlace place (items ++ Holds inside p ∷ []) es; outer = outer })) (items_again block);
+          ∙ line_read m (map_text inside) (plan_text block (deeper m) ++ ending) (MapLine inside) n s opened h says.0 (λ e. cc e) (counted_fits steps (AtPlace inside [] []) (around ∷ outer) (omega (arith, few)) (omega (arith, deep)))
+          ∙ lead.leads
+          ∙ line_read m (codes "end") rest EndLine lead.line filled closed h end_said (λ e. cc e) refl
+          ∙ ap (λ k. reads_on (lines rest) (lead.line + 1) (record { steps = k; inner = AtPlace place (items ++ Holds inside (plan_of_items (items_of block)) ∷ []) es; outer = outer })) count
+          ∙ ap (λ p. reads_on (lines rest) (lead.line + 1) (record { steps = steps + (1 + plan_size block); inner = AtPlace place (items ++ Holds inside p ∷ []) es; outer = outer })) (items_again block);
     }
 
 done_leads : PlanLeads Done
@@ -242,7 +242,7 @@ done_leads m rest n steps place items ends outer h says few deep =
       line = n;
       ends = ends;
       leads = ap (λ k. reads_on (lines rest) n (record { steps = k; inner = AtPlace place items ends; outer = outer })) zero_more
-      ∙ ap (λ is. reads_on (lines rest) n (record { steps = steps + 0; inner = AtPlace place is ends; outer = outer })) (sym (append-nil items));
+          ∙ ap (λ is. reads_on (lines rest) n (record { steps = steps + 0; inner = AtPlace place is ends; outer = outer })) (sym (append-nil items));
     }
 
 then_leads : (i : Item App) (p : Plan App) → ItemLeads i → PlanLeads p → PlanLeads (Then i p)
@@ -255,10 +255,10 @@ then_leads i p first more m rest n steps place items ends outer h says few deep 
       line = all.line;
       ends = all.ends;
       leads = ap (λ t. reads_on (lines t) n s) (append_assoc (item_text i m) (plan_text p m) rest)
-      ∙ one.leads
-      ∙ all.leads
-      ∙ ap (λ k. reads_on (lines rest) all.line (record { steps = k; inner = AtPlace place ((items ++ i ∷ []) ++ items_of p) all.ends; outer = outer })) count
-      ∙ ap (λ is. reads_on (lines rest) all.line (record { steps = steps + (item_size i + plan_size p); inner = AtPlace place is all.ends; outer = outer })) (append_assoc items (i ∷ []) (items_of p));
+          ∙ one.leads
+          ∙ all.leads
+          ∙ ap (λ k. reads_on (lines rest) all.line (record { steps = k; inner = AtPlace place ((items ++ i ∷ []) ++ items_of p) all.ends; outer = outer })) count
+          ∙ ap (λ is. reads_on (lines rest) all.line (record { steps = steps + (item_size i + plan_size p); inner = AtPlace place is all.ends; outer = outer })) (append_assoc items (i ∷ []) (items_of p));
     }
 
 mutual

@@ -1,12 +1,12 @@
 -- A line of words, parted by one space each, says what its words say.
-use Rattle.std.proofs.Common.{◌≡◌, ℕ, suc, ◌+◌, ◌<◌, ◌≤◌, Bool, true, false, List, [], ◌∷◌, ◌++◌, length, Option, None, Some, refl, sym, ap, ◌∙◌, subst, length-append, append-nil, arith}
+use Rattle.std.proofs.Common.{◌≡◌, ℕ, suc, ◌+◌, ◌<◌, ◌≤◌, Bool, true, false, List, [], ◌∷◌, ◌++◌, length, refl, sym, ap, ◌∙◌, length-append, append-nil, arith}
 use Rattle.std.specs.Prelude.{◌&&◌, ◌==◌, nat_le, if◌then◌else◌, ⊤, codes, bytes_eq}
 use Rattle.std.specs.List.{list_all}
 use Rattle.std.proofs.lemmas.Bool.{leb-true, le-leb, ne_eqb}
 use Rattle.std.proofs.lemmas.Slice.Eq.{bytes_eq-Decides}
 use Rattle.stack_file.specs.Canon.{spaced}
 use Rattle.stack_file.specs.Lines.{before_first, parted, without_empty, words, is_printable, is_clean, unindented}
-use Rattle.stack_file.specs.Said.{Said, Nothing, UseLine, RunLine, MapLine, CascadeLine, EndLine, Breaks, said, said_by_words, verb_line, use_line, map_line, run_line, bare_line, is_comment}
+use Rattle.stack_file.specs.Said.{Said, CascadeLine, EndLine, Breaks, said, said_by_words, verb_line, use_line, map_line, run_line, bare_line}
 use Rattle.stack_file.proofs.EscapeLemmas.{AllVisible, IsWord}
 use Rattle.stack_file.proofs.LineLemmas.{words_unindented}
 

@@ -1,5 +1,5 @@
 -- The canonical form of a stack file: what is written for steps. This project's own.
-use Rattle.std.specs.Prelude.{ℕ, ◌-◌, Bool, true, ◌==◌, if◌then◌else◌, List, [], ◌∷◌, ◌++◌, length, map, slice_get, Option, Some, None, codes, decimal}
+use Rattle.std.specs.Prelude.{ℕ, Bool, true, ◌==◌, if◌then◌else◌, List, [], ◌∷◌, ◌++◌, length, map, Option, Some, None, codes, decimal}
 use Rattle.std.specs.List.{flat_map}
 use Rattle.builder_core.specs.Plan.{Plan, Item, Done, Then, Uses, Ends, Holds, EndsAny}
 use Rattle.rack_text.specs.Escaped.{escaped}

@@ -1,6 +1,6 @@
 -- What the program keeps of an open block: in place of the lines of each `end` in it, the first of them at which a
 -- block without a default would have no application. This serves inner contracts alone.
-use Rattle.std.specs.Prelude.{◌≡◌, ℕ, suc, ◌+◌, ◌<◌, ◌&&◌, ◌||◌, nat_le, Bool, true, false, if◌then◌else◌, List, [], ◌∷◌, ◌++◌, length, map, reverse, Option, Some, None, unwrap_or, Result, Ok, Err}
+use Rattle.std.specs.Prelude.{◌≡◌, ℕ, ◌+◌, ◌<◌, ◌&&◌, ◌||◌, nat_le, Bool, true, false, if◌then◌else◌, List, [], ◌∷◌, ◌++◌, length, map, reverse, Option, Some, None, unwrap_or, Result, Ok, Err}
 use Rattle.builder_core.specs.Plan.{Plan, Item, Uses, Holds, EndsAny, plan_of_items, plan, item}
 use Rattle.builder_core.specs.Plan as plans
 use Rattle.builder_core.specs.declared.steps.Steps.{Steps}

@@ -1,6 +1,5 @@
-use Rattle.std.proofs.Common.{◌≡◌, ◌∷◌, [], ◌++◌, List, map, ap, ◌∙◌, sym}
-use Rattle.builder_core.specs.Plan.{Item, Holds, plan_of_items, item}
-use Rattle.stock_apps.specs.declared.app.App.{App}
+use Rattle.std.proofs.Common.{◌∷◌, [], ◌++◌, map, ap, ◌∙◌, sym}
+use Rattle.builder_core.specs.Plan.{Holds, plan_of_items, item}
 use Rattle.stack_file.specs.Kept.{KeptPlace, kept_block, kept_around}
 use Rattle.stack_file.specs.declared.blocks.Block.{Block}
 use Rattle.stack_file.specs.declared.blocks.Block.TheVariants.{Place}

@@ -1,4 +1,4 @@
-use Rattle.std.proofs.Common.{ℕ, List, [], ◌≡◌, ◌∷◌, ◌<◌, length, take, sym, ◌∙◌, arith, rules, subst}
+use Rattle.std.proofs.Common.{[], ◌≡◌, ◌<◌, length, sym, ◌∙◌, arith, rules}
 use Rattle.std.proofs.lemmas.List.Sums.{position_or_len_is}
 use Rattle.std.proofs.lemmas.List.{take_rest, drop_all, nil_from_length}
 use Rattle.stack_file.proofs.LineLemmas.{is_space, words_nothing, word_found, word_alone}

@@ -1,8 +1,7 @@
-use Rattle.std.proofs.Common.{◌≡◌, ◌+◌, List, [], ℕ, Err, Result, sym, ap, ◌∙◌, rules}
+use Rattle.std.proofs.Common.{◌≡◌, ◌+◌, [], sym, ap, ◌∙◌, rules}
 use Rattle.std.proofs.lemmas.List.{nil_from_length}
 use Rattle.stack_file.specs.Kept.{Kept, kept, kept_now, kept_step, kept_reads, kept_goes_on}
 use Rattle.stack_file.specs.Lines.{lines}
-use Rattle.stack_file.specs.Said.{said}
 use Rattle.stack_file.proofs.KeptLemmas.{reads_kept}
 use Rattle.stack_file.proofs.reading.read.Goals as goal
 

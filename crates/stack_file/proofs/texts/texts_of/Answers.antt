@@ -1,4 +1,4 @@
-use Rattle.std.proofs.Common.{◌∙◌, ◌+◌, ap, sym, drop, Some}
+use Rattle.std.proofs.Common.{◌∙◌, ◌+◌, ap, sym, drop}
 use Rattle.rack_text.specs.Escaped.{unescaped}
 use Rattle.stack_file.specs.Said as spec
 use Rattle.stack_file.proofs.LineLemmas.{behind_all, texts_more, texts_none, texts_end}
