@@ -17,10 +17,9 @@ loop-from-preserved g c =
 pub returns-in-Failed : goal.returns-in-Failed
 returns-in-Failed g c =
     let i = c.loop-from.invariant in
-    let text = c.args.text.now in
-    (
+    let text = c.args.text.now in (
       rose_within (g.K.Sink.faults c.args.out.now) (g.K.Sink.faults c.loop-from.out) (g.K.Sink.faults c.write.new.self)
-      (g.K.Sink.faults c.write.new.self) i.later c.in-Failed.ensures.failed (omega arith),
+          (g.K.Sink.faults c.write.new.self) i.later c.in-Failed.ensures.failed (omega arith),
       front_less text c.loop-from.from _ (same_told text c.loop-from.from _ _ i.wrote c.in-Failed.ensures.takes) c.loop-from-test.true,
     )
 
