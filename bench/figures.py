@@ -1,6 +1,6 @@
 """Instructions and time of `puma once`, for short and long heads, whole and byte by byte, for heads with
 few and with many fields, and for bodies by length and in chunks; what a request costs on kept objects
-(`warm.py`), and a further request of one connection (`kept.py`).
+(`warm.py`), a further request of one connection (`kept.py`), and stacks (`stacks.py`).
 
 Instructions are counted by callgrind and are repeatable: over the whole run of the program from its
 start, or of one function with all that it calls. Times are those of this machine, from starting the
@@ -23,6 +23,7 @@ import threading
 import time
 
 import kept
+import stacks
 import warm
 
 TOP = os.path.dirname(os.path.dirname(os.path.abspath(__file__)))
@@ -241,6 +242,7 @@ def main():
         compared.extend(found)
         with tempfile.TemporaryDirectory() as folder:
             compared.extend(kept.figures(PROGRAM, folder, request, heads, instructions, environment))
+            compared.extend(stacks.figures(PROGRAM, folder, heads, instructions))
 
     print(f"\n| starting and answering the short request, at most {MOST_TIME} ms is wanted | best time, ms | middle time, ms |")
     print("|---|--:|--:|")

@@ -4,14 +4,14 @@ import random
 import socket
 
 from model import once
-from program import Cut
+from program import DIRECTLY, Cut
 from wanted import (ANSWERED, BODY_LIMIT, CODED, ECHO, GET, HEAD_ONLY, LENGTH, LINE_LIMIT, NOTHING, READ_LIMIT,
                     SIZE_LINE_LIMIT, TRAILER_LIMIT, post, refusal, refused, reply, served)
 
 
 def check_bodies(checks):
     """The table of hostile bodies, each whole and in single bytes."""
-    checks.begin("bodies")
+    checks.begin("bodies", DIRECTLY)
     row = post(CODED, b"5;x=1\r\nhello\r\n0\r\nT: 1\r\n\r\n")
     trailer = b"0\r\nT: " + b"a" * (TRAILER_LIMIT - 7) + b"\r\n\r\n"
     many, few = b"X: 1\r\n" * (LINE_LIMIT + 1), b"X: 1\r\n" * LINE_LIMIT
@@ -92,7 +92,7 @@ def check_bodies(checks):
 
 
 def check_large_bodies(checks):
-    checks.begin("large bodies")
+    checks.begin("large bodies", DIRECTLY)
     largest = b"a" * BODY_LIMIT
     whole = (0, reply(largest), b"")
     by_length = post([LENGTH + b"%d" % BODY_LIMIT], largest)
@@ -117,7 +117,7 @@ def check_large_bodies(checks):
 
 def check_random_chunks(checks):
     """Chunks made by dice, good ones and broken ones, against the rules written down above."""
-    checks.begin("random chunks")
+    checks.begin("random chunks", DIRECTLY)
     dice = random.Random(977)
     kinds = {"answered": 0, "refused": 0, "waiting": 0}
 

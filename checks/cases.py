@@ -16,7 +16,11 @@ import endpoints
 import heads
 import launcher
 import memory
+import middleware
+import places
+import random_stacks
 import scripts
+import stacks
 import streams
 import words
 from program import PUMA, TOP, Checks, write
@@ -25,7 +29,11 @@ from wanted import ECHO, HELLO
 GROUPS = (
     scripts.check_scripts,
     launcher.check_use, launcher.check_builds,
-    words.check_words, words.check_files, words.check_stacks,
+    words.check_words, words.check_options, words.check_help, words.check_files,
+    stacks.check_rules, stacks.check_written, stacks.check_arguments, stacks.check_file_sizes,
+    random_stacks.check_random, middleware.check_answers, middleware.check_methods,
+    places.check_rows, places.check_places, places.check_defaults, places.check_cascades, places.check_largest,
+    places.check_examples,
     streams.check_statuses, streams.check_streams, streams.check_reads_and_writes, streams.check_interruptions,
     memory.check_memory,
     heads.check_requests, heads.check_heads, heads.check_cuts, heads.check_hostile,

@@ -8,14 +8,10 @@ import subprocess
 import time
 
 from model import once, replies
-from program import PUMA, SECONDS, Cut, write
-from wanted import (ANSWERED, CLOSE, CLOSED, CODED, ECHO, GET, HEAD_ONLY, HELLO, KEEP, LENGTH, NOTHING, REQUEST_LIMIT,
-                    TWICE, post, refusal, refused, reply, served)
+from program import DIRECTLY, PUMA, SECONDS, Cut, write
+from wanted import (ANSWERED, CLOSE, CLOSED, CLOSING, CODED, ECHO, GET, HEAD, HEAD_ONLY, HELLO, KEEP, LENGTH, NOTHING, OLD,
+                    OLD_KEPT, REQUEST_LIMIT, TWICE, post, refusal, reply, served)
 
-CLOSING = GET[:-2] + b"Connection: close\r\n\r\n"
-OLD = b"GET / HTTP/1.0\r\n\r\n"
-OLD_KEPT = b"GET / HTTP/1.0\r\nConnection: keep-alive\r\n\r\n"
-HEAD = GET.replace(b"GET", b"HEAD")
 CURL = b"GET /index.html?x=1 HTTP/1.1\r\nHost: localhost:9292\r\nUser-Agent: curl/8.5.0\r\nAccept: */*\r\n\r\n"
 FIVE = post([LENGTH + b"5"], b"hello")
 CHUNKS = post(CODED, b"3\r\nhel\r\n2;x\r\nlo\r\n0\r\nT: 1\r\n\r\n")
@@ -89,7 +85,7 @@ def check_most(checks):
 
 def check_pipelined(checks):
     """Several requests in one input, in pieces of each size, and the same cut at each place."""
-    checks.begin("pipelined requests")
+    checks.begin("pipelined requests", DIRECTLY)
     if not HAS_PIECES:
         checks.pass_over("all", "there are no sockets that keep pieces apart")
         return
@@ -119,7 +115,7 @@ def check_pipelined(checks):
 
 def check_ends(checks):
     """A peer that ends: between requests, inside a head, inside a body."""
-    checks.begin("ends")
+    checks.begin("ends", DIRECTLY)
     hello = reply(b"hello")
     for name, want, text in [
         ("behind a request", ANSWERED, GET), ("behind two requests", TWICE, GET * 2),

@@ -3,18 +3,13 @@
 import itertools
 import random
 
-from model import endpoint_of, escaped, once
-from program import write
-from wanted import CLOSE, CODED, ECHO, GET, HEAD_ONLY, KEEP, LENGTH, NO_STACK, broken, post, reply, served
+from model import check, once
+from program import DIRECTLY, write
+from stack_file import escaped
+from wanted import (CLOSE, CLOSING, CODED, ECHO, GET, HEAD, HEAD_ONLY, KEEP, LENGTH, OK, OLD, OLD_KEPT, PLAIN, E, bad_stack,
+                    broken, post, reply, served)
 
-OK = b"HTTP/1.1 200 OK\r\n"
-PLAIN = b"content-type: text/plain\r\n"
 CHUNKED = b"transfer-encoding: chunked\r\n"
-E = b"\r\n"
-HEAD = GET.replace(b"GET", b"HEAD")
-OLD = b"GET / HTTP/1.0\r\n\r\n"
-OLD_KEPT = b"GET / HTTP/1.0\r\nConnection: keep-alive\r\n\r\n"
-CLOSING = GET[:-2] + b"Connection: close\r\n\r\n"
 POST = post([LENGTH + b"5"], b"hello")
 # Each form of a request, alone and with a request behind it.
 FORMS = [
@@ -104,7 +99,7 @@ def check_rows(checks):
 
 def check_endpoints(checks):
     """Each endpoint's answer to each form of a request, alone and in front of another."""
-    checks.begin("endpoints")
+    checks.begin("endpoints", DIRECTLY)
     for stack in STACKS:
         file = b"run " + stack + b"\n"
         write("stack", file)
@@ -112,12 +107,12 @@ def check_endpoints(checks):
             for behind in (b"", GET):
                 checks.wants(f"{stack.decode()}, {name}{' and GET' if behind else ''}", once(file, text + behind),
                              "once", "stack", stdin=text + behind)
-    checks.counts("all of them are stacks", [], [stack for stack in STACKS if endpoint_of(b"run " + stack) is None])
+    checks.counts("all of them are stacks", [], [stack for stack in STACKS if check(b"run " + stack)[0] != 0])
 
 
 def check_broken(checks):
     """`bad`: the least rule that is broken is named, whatever else is."""
-    checks.begin("broken answers")
+    checks.begin("broken answers", DIRECTLY)
     numbers = [1, 2, 3, 4, 5, 6, 7, 8, 10]
     dice = random.Random(5)
     more = [dice.choices(numbers, k=size) for size in (3, 4, 5, 6, 7, 8) for _ in range(4)]
@@ -136,25 +131,30 @@ def check_broken(checks):
 
 def check_statuses(checks):
     """Every status, of a text and of pieces."""
-    checks.begin("statuses of replies")
-    for status in range(100, 1000):
-        for stack in (b"run text %d text/plain hello\n", b"run pieces %d a bc\n"):
-            stack %= status
-            write("stack", stack)
-            checks.wants(f"{stack!r}", once(stack, GET + HEAD), "once", "stack", stdin=GET + HEAD)
+    checks.begin("statuses of replies", DIRECTLY)
+    for line in (b"run text %d text/plain hello\n", b"run pieces %d a bc\n"):
+        # A reply below 200 closes its connection. The others are asked for in turn, of stacks that have a place for each.
+        for status in range(100, 200):
+            write("stack", line % status)
+            checks.wants(f"{line % status!r}", once(line % status, GET + HEAD), "once", "stack", stdin=GET + HEAD)
+        for some in (range(at, min(at + 100, 1000)) for at in range(200, 1000, 100)):
+            stack = b"".join(b"map /%d\n%send\n" % (status, line % status) for status in some)
+            asked = [b"%s /%d HTTP/1.1\r\nHost: a\r\n\r\n" % (method, status) for status in some for method in (b"GET", b"HEAD")]
+            want = served(*[once(line % status, text)[1] for status in some for text in (GET, HEAD)])
+            checks.wants(f"{line!r} from {some[0]} on", want, "once", write("stack", stack), stdin=b"".join(asked))
     for status in (99, 1000, 0, 10000):
-        write("stack", b"run pieces %d a\n" % status)
-        checks.wants(f"pieces of {status}", NO_STACK, "once", "stack", stdin=GET)
+        for line in (b"run pieces %d a\n", b"run text %d a b\n"):
+            checks.wants(f"{line % status!r}", bad_stack(1, 5), "once", write("stack", line % status), stdin=GET)
 
 
 def check_long(checks):
     """Long bodies, and many pieces and values."""
-    checks.begin("long answers")
-    many = b"run pieces 200 " + b" ".join([b"ab"] * 20000) + b"\n"
-    one = b"run pieces 200 " + b"a" * 65000 + b"\n"
-    values = b"run cookies " + b" ".join(b"v%d" % i for i in range(8000)) + b"\n"
-    late = b"run late 1000000 " + b"a" * 60000 + b"\n"
-    for name, stack in [("20,000 pieces", many), ("one long piece", one), ("8,000 values", values), ("a long break", late),
+    checks.begin("long answers", DIRECTLY)
+    many = b"run pieces 200" + b" a" * 2040 + b"\n"
+    one = b"run pieces 200 " + b"a" * 4080 + b"\n"
+    values = b"run cookies " + b" ".join(b"v%d" % i for i in range(800)) + b"\n"
+    late = b"run late 1000000 " + b"a" * 4000 + b"\n"
+    for name, stack in [("2,040 pieces", many), ("one long piece", one), ("800 values", values), ("a long break", late),
                         ("many streamed", many.replace(b"pieces 200", b"stream")),
                         ("pieces of all bytes", b"run pieces 200 " + b" ".join(escaped(bytes([b])) for b in range(256)))]:
         write("stack", stack)
@@ -174,7 +174,7 @@ def check_long(checks):
 
 def check_environments(checks):
     """What `env` prints of a request."""
-    checks.begin("environments")
+    checks.begin("environments", DIRECTLY)
     env = b"run env\n"
     write("env.stack", env)
     get = b"GET %s HTTP/1.1\r\nHost: %s\r\n%s\r\n"

@@ -4,7 +4,7 @@ import random
 import socket
 
 from model import once
-from program import Cut
+from program import DIRECTLY, Cut
 from wanted import (ANSWERED, CLOSED, GET, HEAD_LIMIT, HEAD_ONLY, HELLO, KEEP, NOTHING, READ_LIMIT, TWICE,
                     refusal, refused, reply, served)
 
@@ -75,7 +75,7 @@ def check_requests(checks):
 
 
 def check_heads(checks):
-    checks.begin("hostile heads")
+    checks.begin("hostile heads", DIRECTLY)
     curl = (b"GET /index.html?x=1 HTTP/1.1\r\nHost: localhost:9292\r\n"
             b"User-Agent: curl/8.5.0\r\nAccept: */*\r\n\r\n")
     checks.wants("a head as curl writes it", ANSWERED, "once", "hello.stack", stdin=curl)
@@ -158,7 +158,7 @@ def check_heads(checks):
 
 
 def check_cuts(checks):
-    checks.begin("cuts")
+    checks.begin("cuts", DIRECTLY)
     for size in range(len(GET)):
         checks.wants(f"the first {size} bytes", NOTHING, "once", "hello.stack", stdin=GET[:size])
     if not hasattr(socket, "SOCK_SEQPACKET"):
@@ -197,7 +197,7 @@ def check_cuts(checks):
 
 
 def check_hostile(checks):
-    checks.begin("hostile input")
+    checks.begin("hostile input", DIRECTLY)
     mib = 1 << 20
     dice = random.Random(2024)
 

@@ -1,14 +1,15 @@
-"""What one connection is answered, worked out from the rules by readers and writers of its own, over whole texts:
-which request or refusal stands at the front, what the endpoint answers, how that is framed, and where the
-connection ends. Nothing of it is taken from the program.
+"""What the program answers, worked out from the rules by readers and writers of its own, over whole texts: which
+request or refusal stands at the front, how the stack's answer is framed, and where the connection ends. Nothing of it
+is taken from the program.
 """
 
 import re
 
-from wanted import (BODY_LIMIT, HEAD_LIMIT, LINE_LIMIT, NO_STACK, REQUEST_LIMIT, SIZE_LINE_LIMIT, TRAILER_LIMIT,
-                    refusal, served)
+from stack_answers import TOKEN, broken_answer, is_bare, stack_of
+from stack_file import read, written
+from wanted import (BODY_LIMIT, FILE_LIMIT, HEAD_LIMIT, LINE_LIMIT, LONG, REQUEST_LIMIT, SIZE_LINE_LIMIT, TRAILER_LIMIT,
+                    bad_stack, refusal, served)
 
-TOKEN = rb"[!#$%&'*+\-.^_`|~0-9A-Za-z]+"
 FIELD = rb"(" + TOKEN + rb"):([\t\x20-\x7e\x80-\xff]*)\r?\n"
 NAME = rb"(?:[A-Za-z0-9\-._~!$&'()*+,;=%]+|\[[0-9A-Fa-f:.]+\])"
 REASONS = {
@@ -20,54 +21,6 @@ REASONS = {
     429: "Too Many Requests", 431: "Request Header Fields Too Large", 500: "Internal Server Error",
     501: "Not Implemented", 503: "Service Unavailable",
 }
-
-
-# Escaped text, and the stack's one line
-
-def escaped(text):
-    def spelled(byte):
-        short = {0x20: b"\\s", 0x0a: b"\\n", 0x0d: b"\\r", 0x5c: b"\\\\"}
-        return short.get(byte) or (b"%c" % byte if 33 <= byte <= 126 else b"\\x%02x" % byte)
-
-    return b"".join(map(spelled, text)) or b"\\e"
-
-
-def unescaped(word):
-    """The text that this word spells, or none."""
-    if word == b"\\e":
-        return b""
-    pair = rb"\\x([0-9A-Fa-f]{2})|\\([snr\\])|([!-\[\]-~])"
-    if not word or re.fullmatch(rb"(?:" + pair + rb")+", word) is None:
-        return None
-    short = {b"s": b" ", b"n": b"\n", b"r": b"\r", b"\\": b"\\"}
-    return b"".join(bytes([int(m[1], 16)]) if m[1] else short[m[2]] if m[2] else m[3] for m in re.finditer(pair, word))
-
-
-def number(text, least, most):
-    return re.fullmatch(rb"[0-9]+", text) is not None and least <= int(text) <= most
-
-
-def endpoint_of(file):
-    """The name and the arguments of the endpoint that this stack file runs, or none where it is no stack."""
-    words = (file[:-1] if file.endswith(b"\n") else file).split(b" ")
-    if len(words) < 2 or words[0] != b"run":
-        return None
-    name, arguments = words[1], [unescaped(word) for word in words[2:]]
-    if None in arguments:
-        return None
-    count = len(arguments)
-    good = {
-        b"text": lambda: count == 3 and number(arguments[0], 100, 999),
-        b"echo": lambda: count == 0,
-        b"env": lambda: count == 0,
-        b"pieces": lambda: count >= 1 and number(arguments[0], 100, 999),
-        b"stream": lambda: True,
-        b"cookies": lambda: count >= 1,
-        b"bad": lambda: 1 <= count <= 8 and all(number(n, 1, 10) and int(n) != 9 for n in arguments),
-        b"raise": lambda: count == 1,
-        b"late": lambda: count >= 1 and number(arguments[0], 0, 1000000),
-    }
-    return (name, arguments) if name in good and good[name]() else None
 
 
 # Requests
@@ -135,6 +88,14 @@ def head_fault(method, target, version, fields):
     return None
 
 
+def is_utf8(text):
+    try:
+        text.decode()
+    except UnicodeDecodeError:
+        return False
+    return True
+
+
 def head_end(text):
     """Where the first head text ends: behind the first blank line that isn't at the front."""
     at = 0
@@ -158,8 +119,8 @@ def stands(text):
     head = re.sub(rb"\A(?:\r?\n)+", b"", text[:end])
     if head.count(b"\n") - 2 > LINE_LIMIT:
         return "F2"
-    line = re.match(rb"(" + TOKEN + rb") ([!-~]+) (HTTP/1\.[01])\r?\n", head)
-    if line is None or re.fullmatch(rb"(?:" + FIELD + rb")*\r?\n", head[line.end():]) is None:
+    line = re.match(rb"(" + TOKEN + rb") ([!-~\x80-\xff]+) (HTTP/1\.[01])\r?\n", head)
+    if line is None or not is_utf8(line[2]) or re.fullmatch(rb"(?:" + FIELD + rb")*\r?\n", head[line.end():]) is None:
         return "F3"
     fields = [(m[1], m[2].strip(b" \t")) for m in re.finditer(FIELD, head[line.end():])]
     fault = head_fault(*line.groups(), fields)
@@ -213,9 +174,9 @@ def chunks(text):
     return (data, at + found.end()) if re.fullmatch(rb"(?:" + FIELD + rb")*\r?\n", found[0]) else "F13"
 
 
-# The environment, as the endpoint `env` prints it
+# The environment
 
-def pairs(request):
+def pairs(request, hijack):
     authority = authority_of(request.target)
     rest = request.target if authority is None else request.target[request.target.index(b"//") + 2 + len(authority):]
     path, _, query = rest.partition(b"?")
@@ -226,9 +187,11 @@ def pairs(request):
         name = re.match(NAME, host)[0]
         port = b"%d" % int(host[len(name) + 1:] or b"80")
     found = [
-        (b"REQUEST_METHOD", request.method), (b"SCRIPT_NAME", b""), (b"PATH_INFO", path if path or authority is None else b"/"),
+        (b"REQUEST_METHOD", request.method), (b"SCRIPT_NAME", b""),
+        (b"PATH_INFO", path if path or authority is None else b"/"),
         (b"QUERY_STRING", query), (b"SERVER_NAME", name), (b"SERVER_PORT", port), (b"SERVER_PROTOCOL", request.version),
-        (b"REMOTE_ADDR", b"127.0.0.1"), (b"rack.url_scheme", b"http"), (b"rack.errors", b"discard"), (b"rack.hijack?", b"true"),
+        (b"REMOTE_ADDR", b"127.0.0.1"), (b"rack.url_scheme", b"http"), (b"rack.errors", b"discard"),
+        (b"rack.hijack?", b"true" if hijack else b"false"),
     ]
     if request.values(b"content-type"):
         found.append((b"CONTENT_TYPE", b", ".join(request.values(b"content-type"))))
@@ -246,75 +209,11 @@ def pairs(request):
     return found + [(b"HTTP_" + name.replace(b"-", b"_"), b", ".join(values)) for name, values in others.items()]
 
 
-# Answers: status, headers, pieces, whether the length is known, whether the body raises at its end
-
-RAISED = "raised"
-PLAIN = (b"content-type", b"text/plain")
-BAD = {
-    2: (b"a b", b"x"), 3: (b"status", b"x"), 4: (b"X-Upper", b"x"), 5: (b"x-five", b"a\1"), 6: PLAIN,
-    7: (b"content-length", b"2"), 8: (b"content-length", b"5x"), 10: (b"content-length", b"3"),
-}
-
-
-def answer(endpoint, request):
-    name, arguments = endpoint
-    if name == b"text":
-        return int(arguments[0]), [(b"content-type", arguments[1])], [arguments[2]], True, False
-    if name == b"echo":
-        return 200, [PLAIN], [request.body], True, False
-    if name == b"env":
-        lines = b"".join(name + b"=" + escaped(value) + b"\n" for name, value in pairs(request))
-        return 200, [PLAIN], [lines], True, False
-    if name == b"pieces":
-        return int(arguments[0]), [PLAIN], arguments[1:], False, False
-    if name == b"stream":
-        return 200, [PLAIN], arguments, False, False
-    if name == b"cookies":
-        return 200, [(b"set-cookie", value) for value in arguments], [], True, False
-    if name == b"bad":
-        numbers = [int(n) for n in arguments]
-        status = 99 if 1 in numbers else 204 if 6 in numbers or 7 in numbers else 200
-        values = [BAD[n] for n in numbers if n in BAD]
-        # The values of one name stand together, where it first comes.
-        names = list(dict.fromkeys(name for name, _ in values))
-        return status, [pair for name in names for pair in values if pair[0] == name], [b"ok"], True, False
-    if name == b"late":
-        raises = arguments[1:] and arguments[-1] == b"!"
-        pieces = arguments[1:-1] if raises else arguments[1:]
-        return 200, [(b"content-length", b"%d" % int(arguments[0]))], pieces, False, bool(raises)
-    return RAISED
-
-
-def is_bare(status):
-    return 100 <= status <= 199 or status in (204, 304)
-
-
-def broken_rule(request, answered):
-    """The number of the least rule for answers that is broken, or none."""
-    if answered == RAISED:
-        return 0
-    status, headers, pieces, known, _ = answered
-    names = [name for name, _ in headers]
-    lengths = [value for name, value in headers if name == b"content-length"]
-    is_number = len(lengths) == 1 and number(lengths[0], 0, 2 ** 64 - 1)
-    broken = {
-        1: not 100 <= status <= 999,
-        2: any(re.fullmatch(TOKEN, name) is None for name in names),
-        3: b"status" in names,
-        4: any(re.search(rb"[A-Z]", name) for name in names),
-        5: any(re.search(rb"[\x00-\x1f\x7f]", value) for _, value in headers),
-        6: is_bare(status) and b"content-type" in names,
-        7: is_bare(status) and b"content-length" in names,
-        8: lengths and not is_number,
-        10: is_number and known and int(lengths[0]) != len(b"".join(pieces)) and request.method != b"HEAD"
-            and not is_bare(status),
-    }
-    return next((rule for rule, stands in broken.items() if stands), None)
-
+# Replies
 
 def framed(request, answered, last):
     """The bytes of the reply, and whether the connection closes behind them."""
-    rule = broken_rule(request, answered)
+    rule = broken_answer(request.method, answered)
     if rule is not None:
         answered = (500, [(b"x-puma-fault", b"L%d" % rule), (b"content-length", b"0")], [], True, False)
     status, headers, pieces, known, raises = answered
@@ -336,32 +235,53 @@ def framed(request, answered, last):
         body = b"".join(b"%x\r\n%s\r\n" % (len(piece), piece) for piece in pieces if piece) + b"0\r\n\r\n"
     else:
         closing, body = True, b"".join(pieces)
-    closes = closing or last or not request.persists() or status < 200
+    asked = listed([value for name, value in headers if name == b"connection"])
+    closes = closing or last or not request.persists() or status < 200 or b"close" in asked
     if closes:
         line += b"connection: close\r\n"
     elif request.version == b"HTTP/1.0":
         line += b"connection: keep-alive\r\n"
     head = b"HTTP/1.1 %d %s\r\n" % (status, REASONS.get(status, "").encode())
-    head += b"".join(name + b": " + value + b"\r\n" for name, value in headers)
+    head += b"".join(name + b": " + value + b"\r\n" for name, value in headers if not is_left_out(name))
     return head + line + b"\r\n" + body, closes or breaks
 
 
-def replies(stack, text):
+def is_left_out(name):
+    return name.startswith(b"rack.") or name in (b"transfer-encoding", b"connection")
+
+
+def replies(file, text, hijack=True):
     """The replies that this input is answered by, one by one. Also, whether the connection closed behind them."""
-    endpoint, said = endpoint_of(stack), []
+    stack, said = stack_of(file), []
     while True:
         found = stands(text)
         if found is None:
             return said, False
         if isinstance(found, str):
             return [*said, refusal(found)], True
-        reply, closes = framed(found, answer(endpoint, found), len(said) + 1 == REQUEST_LIMIT)
+        answered = stack(dict(pairs(found, hijack)), found.body)
+        reply, closes = framed(found, answered, len(said) + 1 == REQUEST_LIMIT)
         said.append(reply)
         if closes:
             return said, True
         text = text[found.taken:]
 
 
-def once(stack, text):
-    """Status, output and errors of a connection of this stack on this input."""
-    return NO_STACK if endpoint_of(stack) is None else served(*replies(stack, text)[0])
+# Status, output and errors of the commands
+
+def once(file, text, hijack=True):
+    """Of a connection of this stack file on this input."""
+    return unread(file) or served(*replies(file, text, hijack)[0])
+
+
+def check(file):
+    """Of the check of this stack file."""
+    return unread(file) or served(written(read(file)))
+
+
+def unread(file):
+    """What both commands answer to a file that is too long or no stack."""
+    if len(file) > FILE_LIMIT:
+        return LONG
+    found = read(file)
+    return bad_stack(*found) if isinstance(found, tuple) else None

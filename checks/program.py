@@ -10,6 +10,7 @@ import threading
 TOP = os.path.dirname(os.path.dirname(os.path.abspath(__file__)))
 PUMA = os.path.join(TOP, "bin", "puma")
 PROGRAM = os.path.join(TOP, "crates", "puma_cli", "out", "puma_cli")
+DIRECTLY = (PROGRAM,)
 SECONDS = 60
 
 
@@ -112,10 +113,13 @@ class Checks:
     def __init__(self):
         self.passed = self.failed = self.skipped = 0
         self.group, self.in_group = "", 0
+        self.program = (PUMA,)
 
-    def begin(self, group):
+    def begin(self, group, program=(PUMA,)):
+        """A group of many cases may run the program itself, which `bin/puma` has built and does no more than start."""
         self.end()
         self.group, self.in_group = group, 0
+        self.program = program
 
     def end(self):
         if self.in_group:
@@ -123,7 +127,7 @@ class Checks:
 
     def wants(self, name, want, *words, **how):
         """Status, output and errors of the program with these words."""
-        self.answers(name, want, run(words, **how))
+        self.answers(name, want, run(words, **{"program": self.program, **how}))
 
     def answers(self, name, want, got):
         """Status, output and errors, as `run` gives them."""

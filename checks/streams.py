@@ -8,8 +8,8 @@ import socket
 import subprocess
 
 from program import PROGRAM, PUMA, Ready, Reset, run, write
-from wanted import (ANSWERED, BODY_LIMIT, CLOSE, CODED, FILE_LIMIT, GET, HEAD_ONLY, LENGTH, NOTHING, READ_FAILED,
-                    UNREADABLE, WRITE_FAILED, post, refusal, reply)
+from wanted import (ABSENT, ANSWERED, BODY_LIMIT, CLOSE, CODED, FILE_LIMIT, GET, HEAD_ONLY, HELLO, LENGTH, NOTHING,
+                    READ_FAILED, UNREADABLE, WRITE_FAILED, bad_stack, post, refusal, reply)
 
 LARGE = post([LENGTH + b"%d" % BODY_LIMIT], b"a" * BODY_LIMIT)
 LARGE_REPLY = reply(b"a" * BODY_LIMIT)
@@ -37,20 +37,27 @@ def check_statuses(checks):
         (3, b"puma: file absent\n", ["once", "nofile"], GET),
         (3, b"puma: file long\n", ["once", "long"], GET),
         (3, b"puma: file failed\n", ["once", "."], GET),
-        (4, b"puma: stack line 1 S0\n", ["once", "bad.stack"], GET),
+        (4, b"puma: stack line 1 S2\n", ["once", "bad.stack"], GET),
+        (0, b"", ["check", "hello.stack"], b""),
+        (2, b"puma: usage\n", ["check", "--no-hijack", "hello.stack"], b""),
+        (3, b"puma: file absent\n", ["check", "nofile"], b""),
+        (3, b"puma: file long\n", ["check", "long"], b""),
+        (3, b"puma: file failed\n", ["check", "."], b""),
+        (4, b"puma: stack line 1 S2\n", ["check", "bad.stack"], b""),
         (6, b"puma: read failed\n", ["once", "hello.stack"], "/"),
     ]:
-        name = line.decode().strip() or "done"
-        output = b"" if number else reply(b"hello")
+        name = f"{words[0]}, {line.decode().strip() or 'done'}"
+        output = b"" if number else HELLO if words[0] == "check" else reply(b"hello")
         checks.wants(name, (number, output, line), *words, stdin=stdin)
         check_mute(checks, name, (number, output, b""), words, stdin=stdin)
     if not os.path.exists("/dev/full"):
         checks.pass_over("puma: write failed", "there is no /dev/full")
         return
     with open("/dev/full", "wb") as full:
-        words = ["once", "hello.stack"]
-        checks.wants("puma: write failed", WRITE_FAILED, *words, stdin=GET, stdout=full)
-        check_mute(checks, "puma: write failed", (7, b"", b""), words, stdin=GET, stdout=full)
+        for words in (["once", "hello.stack"], ["check", "hello.stack"]):
+            name = words[0] + ", puma: write failed"
+            checks.wants(name, WRITE_FAILED, *words, stdin=GET, stdout=full)
+            check_mute(checks, name, (7, b"", b""), words, stdin=GET, stdout=full)
 
 
 def check_mute(checks, name, want, words, **how):
@@ -93,9 +100,37 @@ def check_streams(checks):
         os.close(reader)
         checks.wants(name, want, "once", "hello.stack", stdin=stdin, stdout=writer)
         os.close(writer)
+    check_check(checks)
     check_leaving_reader(checks)
     check_full_pipe(checks)
     check_file_limit(checks)
+
+
+def check_check(checks):
+    """What `check` writes to outputs that take nothing. Where nothing is to be written, none is looked at."""
+    for name, want, file in [("a good file", WRITE_FAILED, "hello.stack"), ("a bad file", bad_stack(1, 2), "bad.stack"),
+                             ("no file", ABSENT, "nofile")]:
+        checks.wants(f"check of {name} with output that is closed", want, "check", file, program=without(">"))
+        reader, writer = os.pipe()
+        os.close(reader)
+        checks.wants(f"check of {name} into a pipe whose reader is gone", want, "check", file, stdout=writer)
+        os.close(writer)
+        if os.path.exists("/dev/full"):
+            with open("/dev/full", "wb") as full:
+                checks.wants(f"check of {name} into a device that is full", want, "check", file, stdout=full)
+    checks.wants("check with an input that is closed", (0, HELLO, b""), "check", "hello.stack", program=without("<"))
+    text = b"run stream " + b"x" * 4000 + b"\n"
+    write("large.stack", text * 16)
+    checks.wants("check of a large file", (0, text * 16, b""), "check", "large.stack")
+    with open("taken", "w+b") as taken:
+        status, _, errors = run(["check", "large.stack"], stdout=taken, preexec_fn=lambda: limit_files(5000)) or (None, b"", b"")
+        taken.seek(0)
+        checks.answers("check into a file that may have 5,000 bytes", (7, (text * 16)[:5000], WRITE_FAILED[2]),
+                       (status, taken.read(), errors))
+
+
+def limit_files(size):
+    resource.setrlimit(resource.RLIMIT_FSIZE, (size, size))
 
 
 def check_leaving_reader(checks):
@@ -150,7 +185,7 @@ def check_file_limit(checks):
         ("a reply that just fits", len(reply(b"hello")), "hello.stack", GET, reply(b"hello")),
     ]:
         def limit():
-            resource.setrlimit(resource.RLIMIT_FSIZE, (size, size))
+            limit_files(size)
 
         with open("taken", "w+b") as taken:
             status, _, errors = run(["once", stack], stdin=stdin, stdout=taken, preexec_fn=limit) or (None, b"", b"")
@@ -282,9 +317,26 @@ def check_interruptions(checks):
         with open("trace", "rb") as trace:
             checks.counts(f"{name}, how many", count, trace.read().count(b"(INJECTED)"))
     if can:
+        check_interrupted_check(checks, stack)
         check_failed_midway(checks)
     else:
         checks.pass_over("a write that fails midway", "strace is missing or may not be used")
+
+
+def check_interrupted_check(checks, stack):
+    """The same of `check`, which reads no input."""
+    for name, want, count, which in [
+        ("interrupted reads", (0, HELLO, b""), 3, [*stack, "-e", "inject=read:error=EINTR:when=1..3"]),
+        ("interrupted writes", (0, HELLO, b""), 3, ["-e", "inject=write:error=EINTR:when=1..3"]),
+        ("a first read that fails", UNREADABLE, 1, [*stack, "-e", "inject=read:error=EIO:when=1"]),
+        ("a first write that fails", WRITE_FAILED, 1, ["-e", "inject=write:error=EIO:when=1"]),
+        ("a first write that would wait", WRITE_FAILED, 1, ["-e", "inject=write:error=EAGAIN:when=1"]),
+        ("a first write that takes nothing", WRITE_FAILED, 1, ["-e", "inject=write:retval=0:when=1"]),
+    ]:
+        program = ["strace", "-o", "trace", *which, PROGRAM]
+        checks.wants(f"check, {name}", want, "check", "hello.stack", program=program)
+        with open("trace", "rb") as trace:
+            checks.counts(f"check, {name}, how many", count, trace.read().count(b"(INJECTED)"))
 
 
 def check_failed_midway(checks):

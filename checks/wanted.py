@@ -5,6 +5,10 @@ answered is worked out by `model.py`.
 HELLO = b"run text 200 text/plain hello\n"
 ECHO = b"run echo\n"
 GET = b"GET / HTTP/1.1\r\nHost: a\r\n\r\n"
+HEAD = GET.replace(b"GET", b"HEAD")
+OLD = b"GET / HTTP/1.0\r\n\r\n"
+OLD_KEPT = b"GET / HTTP/1.0\r\nConnection: keep-alive\r\n\r\n"
+CLOSING = GET[:-2] + b"Connection: close\r\n\r\n"
 HEAD_LIMIT = 32768
 LINE_LIMIT = 64
 FILE_LIMIT = 65536
@@ -66,6 +70,17 @@ def refusal(fault):
     return head % (line, fault.encode(), CLOSE)
 
 
+def linted(rule, behind=b""):
+    """The reply to a request that `lint` answers, with these lines behind its own."""
+    return b"HTTP/1.1 500 Internal Server Error\r\nx-lint: %s\r\ncontent-length: 0\r\n%s\r\n" % (rule.encode(), behind)
+
+
+OK = b"HTTP/1.1 200 OK\r\n"
+PLAIN = b"content-type: text/plain\r\n"
+E = b"\r\n"
+# Where no place fits: how long the body is, and the path.
+NOT_FOUND = (b"HTTP/1.1 404 Not Found\r\ncontent-type: text/plain\r\nx-cascade: pass\r\ncontent-length: %d\r\n\r\n"
+             b"Not Found: %s")
 NOTHING = (0, b"", b"")
 ANSWERED = (0, reply(b"hello"), b"")
 CLOSED = (0, reply(b"hello", connection=CLOSE), b"")
@@ -77,9 +92,12 @@ USAGE = (2, b"", b"puma: usage\n")
 ABSENT = (3, b"", b"puma: file absent\n")
 LONG = (3, b"", b"puma: file long\n")
 UNREADABLE = (3, b"", b"puma: file failed\n")
-NO_STACK = (4, b"", b"puma: stack line 1 S0\n")
 READ_FAILED = (6, b"", b"puma: read failed\n")
 WRITE_FAILED = (7, b"", b"puma: write failed\n")
+
+
+def bad_stack(line, rule):
+    return (4, b"", b"puma: stack line %d S%d\n" % (line, rule))
 
 
 def refused(fault):

@@ -1,19 +1,23 @@
-"""Words, files and stack files: what the program is told to do."""
+"""Words and files: what the program is told to do, and what it says of itself."""
 
 import os
 import subprocess
 import threading
 import time
 
-from model import endpoint_of, escaped
-from program import PROGRAM, write
-from wanted import (ABSENT, ANSWERED, ECHO, FILE_LIMIT, GET, HELLO, LENGTH, LONG, NO_STACK, UNREADABLE, USAGE, post,
-                    reply)
+from model import once
+from program import PROGRAM, PUMA, run, write
+from wanted import (ABSENT, ANSWERED, ECHO, FILE_LIMIT, GET, HELLO, LENGTH, LONG, NOTHING, UNREADABLE, USAGE,
+                    WRITE_FAILED, bad_stack, post, reply, served)
 
 NOBODY = 65534
+COMMANDS = ["once", "check"]
+ASKS_HELP = ["--help", "-h", "help"]
+ASKS_VERSION = ["--version", "-V"]
 
 
 def check_words(checks):
+    """Words that are no command: the line on standard error, and nothing else."""
     checks.begin("words")
     for name, words in [
         ("no word", []),
@@ -23,8 +27,15 @@ def check_words(checks):
         ("a command in capitals", ["Once", "hello.stack"]),
         ("a command with a space behind", ["once ", "hello.stack"]),
         ("a command and its name in one word", ["once hello.stack"]),
-        ("an option", ["--help"]),
         ("once alone", ["once"]),
+        ("check alone", ["check"]),
+        ("check and two names", ["check", "hello.stack", "hello.stack"]),
+        ("check in capitals", ["CHECK", "hello.stack"]),
+        ("a command's front", ["chec", "hello.stack"]),
+        ("a command and more", ["checks", "hello.stack"]),
+        ("both commands", ["once", "check", "hello.stack"]),
+        ("a command that is to come", ["replay", "hello.stack"]),
+        ("another that is to come", ["serve", "--token", "t", "hello.stack"]),
         ("a third word", ["once", "hello.stack", "hello.stack"]),
         ("a third word that is empty", ["once", "hello.stack", ""]),
         ("an empty word in front", ["", "once", "hello.stack"]),
@@ -36,10 +47,111 @@ def check_words(checks):
         ("a third word that isn't UTF-8", ["once", "hello.stack", b"\xc3\x28"]),
     ]:
         checks.wants(name, USAGE, *words, stdin=GET)
+    for words in [
+        ["--no-hijack"], ["--no-hijack", "hello.stack"], ["--no-hijack", "once", "hello.stack"],
+        ["once", "--no-hijack"],
+        ["once", "--no-hijack", "--no-hijack", "hello.stack"], ["once", "--no-hijack", "hello.stack", "--no-hijack"],
+        ["once", "hello.stack", "--no-hijack", "--no-hijack"], ["once", "--no-hijack", "hello.stack", "hello.stack"],
+        ["once", "hello.stack", "--no-hijack", "hello.stack"], ["once", "--no-hijack=true", "hello.stack"],
+        ["once", "--no-hijack=", "hello.stack"], ["once", "--no-hijack=hello.stack"],
+        ["once", "--no-hij", "hello.stack"],
+        ["once", "--no-hijacks", "hello.stack"], ["once", "--No-Hijack", "hello.stack"],
+        ["once", "--no_hijack", "hello.stack"],
+        ["once", "-no-hijack", "hello.stack"], ["once", "-n", "hello.stack"], ["once", "--hijack", "hello.stack"],
+        ["once", "-s"], ["once", "-hello.stack"], ["once", "--hello.stack"], ["once", "---"], ["once", "-1"],
+        ["once", "hello.stack", "-x"], ["once", "-x", "hello.stack"], ["once", "- ", "hello.stack"],
+        ["check", "--no-hijack", "hello.stack"], ["check", "hello.stack", "--no-hijack"], ["check", "-x"],
+        ["check", "-n", "hello.stack"],
+        ["--"], ["--", "once", "hello.stack"], ["once", "--"], ["once", "--", "hello.stack", "hello.stack"],
+        ["once", "--no-hijack", "--"],
+        ["once", "--", "hello.stack", "--no-hijack"], ["once", "hello.stack", "--", "--no-hijack"],
+        ["once", "--", "--", "hello.stack"],
+        ["check", "--"], ["check", "--", "--no-hijack", "hello.stack"], ["-"], ["-", "hello.stack"],
+        ["-x", "once", "hello.stack"],
+        # Help is asked for alone, or behind a command's name alone.
+        ["--helps"], ["--hel"], ["-help"], ["-hV"], ["-v"], ["version"], ["Help"], ["--HELP"], ["--help="],
+        ["--help", "once"],
+        ["help", "once"], ["help", "help"], ["-h", "-h"], ["--version", "--help"], ["twice", "--help"],
+        ["once", "--help", "hello.stack"],
+        ["once", "hello.stack", "--help"], ["once", "help", "hello.stack"], ["check", "-V", "hello.stack"],
+        ["--", "--help"],
+        ["once", "--no-hijack", "--help"], ["", "--help"],
+    ]:
+        checks.wants(f"the words {' '.join(words)}", USAGE, *words, stdin=GET)
     # Whatever the program is called, its own name is no word.
     for name in ["once", "puma", "", "a name", b"\xff", "hello.stack"]:
-        for want, words in [(ANSWERED, ["once", "hello.stack"]), (USAGE, ["hello.stack"]), (USAGE, ["once"]), (USAGE, [])]:
+        for want, words in [(ANSWERED, ["once", "hello.stack"]), (USAGE, ["hello.stack"]), (USAGE, ["once"]),
+                            (USAGE, [])]:
             checks.wants(f"called {name!r}, {words}", want, *words, stdin=GET, program=(name,), executable=PROGRAM)
+
+
+def check_options(checks):
+    """Names and the one option: where it may stand, and names that begin with a hyphen."""
+    checks.begin("options")
+    asked = GET.replace(b"/", b"/p?q=1", 1)
+    env, written = b"use lint\nrun env\n", served(b"use lint\nrun env\n")
+    names = ["-", "--", "-s", "--no-hijack", "--help", "-h", "-V", "help", "once", "check", "-- ", "--x=y"]
+    for name in names:
+        write(name, env)
+    write("env.stack", env)
+    kept, told = once(env, asked), once(env, asked, hijack=False)
+    checks.counts("what the application is told, by hand", [1, 0, 0, 1],
+                  [said[1].count(b"\nrack.hijack?=" + word + b"\n") for said in (kept, told) for word in (b"true",
+                                                                                                          b"false")])
+    for want, words in [
+        (kept, ["env.stack"]), (kept, ["--", "env.stack"]), (kept, ["env.stack", "--"]),
+        (told, ["--no-hijack", "env.stack"]), (told, ["env.stack", "--no-hijack"]),
+        (told, ["--no-hijack", "--", "env.stack"]),
+        (told, ["--no-hijack", "env.stack", "--"]), (told, ["env.stack", "--no-hijack", "--"]),
+        (kept, ["-"]), (told, ["-", "--no-hijack"]), (told, ["--no-hijack", "-"]),
+        (kept, ["--", "--no-hijack"]), (told, ["--no-hijack", "--", "--no-hijack"]),
+        (told, ["--no-hijack", "help"]), (kept, ["--", "help"]), (kept, ["./help"]), (kept, ["./--no-hijack"]),
+        (told, ["./-s", "--no-hijack"]),
+        (kept, ["once"]), (kept, ["check"]),
+    ]:
+        checks.wants(f"once {' '.join(words)}", want, "once", *words, stdin=asked)
+    for name in names:
+        checks.wants(f"once -- {name}", kept, "once", "--", name, stdin=asked)
+        checks.wants(f"once --no-hijack -- {name}", told, "once", "--no-hijack", "--", name, stdin=asked)
+        checks.wants(f"check -- {name}", written, "check", "--", name)
+    for words in (["env.stack"], ["env.stack", "--"], ["-"], ["./help"], ["once"], ["check"]):
+        checks.wants(f"check {' '.join(words)}", written, "check", *words)
+    # No reply depends on the option but by what it tells.
+    checks.wants("the option beside a text", ANSWERED, "once", "--no-hijack", "hello.stack", stdin=GET)
+    checks.wants("an absent file behind the option", ABSENT, "once", "--no-hijack", "nofile", stdin=GET)
+    checks.wants("an absent file behind two hyphens", ABSENT, "once", "--", "-nofile", stdin=GET)
+    checks.wants("an empty name behind two hyphens", ABSENT, "once", "--", "", stdin=GET)
+    for name in names:
+        os.remove(name)
+
+
+def check_help(checks):
+    """What the program says of itself: standard output, status 0, and nothing on standard error."""
+    checks.begin("help")
+    for asks, parts in [(ASKS_HELP, [b"puma once", b"puma check", b"--no-hijack", b"STACK", b"docs/"]),
+                        (ASKS_VERSION, [b"puma"])]:
+        first = run([asks[0]]) or NOTHING
+        checks.counts(f"{asks[0]} ends in a line", (True, True), (first[1].endswith(b"\n"), first[1].isascii()))
+        checks.counts(f"{asks[0]}, what isn't in it", [], [part for part in parts if part not in first[1]])
+        for word in asks:
+            checks.wants(word, (0, first[1], b""), word)
+            checks.wants(word + " with an input that is a folder", (0, first[1], b""), word, stdin="/")
+            for command in COMMANDS:
+                status, text, errors = run([command, word], stdin="/") or (None, b"", b"")
+                named = command.encode() in text or asks is ASKS_VERSION
+                checks.counts(f"{command} {word}", (0, True, True, b""), (status, named, b"puma" in text, errors))
+    for word in [*ASKS_HELP, *ASKS_VERSION]:
+        closed = ("sh", "-c", 'exec "$@" >&-', "sh", PUMA)
+        checks.wants(word + " with output that is closed", WRITE_FAILED, word, program=closed)
+        reader, writer = os.pipe()
+        os.close(reader)
+        checks.wants(word + " into a pipe whose reader is gone", WRITE_FAILED, "once", word, stdout=writer)
+        os.close(writer)
+    text = (run(["--help"]) or NOTHING)[1].decode("ascii", "replace")
+    checks.counts("each exit status is told", [], [n for n in "01234679" if f"  {n}  " not in text])
+    checks.counts("how wide it is", True, 0 < max(map(len, text.split("\n"))) < 80)
+    version = (run(["--version"]) or NOTHING)[1]
+    checks.counts("a version is one line", (1, True), (version.count(b"\n"), version.startswith(b"puma ")))
 
 
 def check_files(checks):
@@ -52,7 +164,6 @@ def check_files(checks):
         ("a link to nothing", ABSENT, "dangling"),
         ("an empty name", ABSENT, ""),
         ("a hyphen, which is a name like any other", ABSENT, "-"),
-        ("a hyphen and a letter", ABSENT, "-s"),
         ("a folder", UNREADABLE, "."),
         ("a link to itself", UNREADABLE, "round"),
         ("a name below a file", UNREADABLE, "hello.stack/x"),
@@ -60,28 +171,32 @@ def check_files(checks):
         ("a name that is too long", UNREADABLE, "a" * 300),
         ("a path that is too long", UNREADABLE, "a/" * 3000),
         ("a file without end", LONG, "/dev/zero"),
-        ("an empty file", NO_STACK, "/dev/null"),
+        ("an empty file", bad_stack(1, 8), "/dev/null"),
     ]:
         checks.wants(name, want, "once", file, stdin=HELLO + GET)
+        checks.wants(name + ", checked", want, "check", file)
     for name in [" in front", "behind ", "  both\t", "a name with spaces", "\n", "-", "hello.stack\n", "HELLO.stack"]:
         write(name, ECHO)
         checks.wants(f"the name {name!r}", (0, reply(b"12"), b""), "once", name, stdin=post([LENGTH + b"2"], b"12"))
+        checks.wants(f"the name {name!r}, checked", served(ECHO), "check", name)
+        os.remove(name)
     checks.wants("a name with a space in front that none has", ABSENT, "once", " hello.stack", stdin=GET)
     checks.wants("a name with a space behind that none has", ABSENT, "once", "hello.stack ", stdin=GET)
-    front = b"run text 200 text/plain "
-    body = b"h" * (FILE_LIMIT - len(front))
-    write("most", front + body)
-    checks.wants("a file of the most bytes", (0, reply(body), b""), "once", "most", stdin=GET)
-    write("more", front + body + b"h")
+    most = HELLO + b"\n" * (FILE_LIMIT - len(HELLO))
+    write("most", most)
+    checks.wants("a file of the most bytes", ANSWERED, "once", "most", stdin=GET)
+    write("more", most + b"\n")
     checks.wants("one byte more", LONG, "once", "more", stdin=GET)
+    checks.wants("one byte more, checked", LONG, "check", "more")
     checks.wants("an absent file before a failed read", ABSENT, "once", "nofile", stdin="/")
     check_closed_files(checks)
     for name, want, pieces in [
         ("a file that comes in three pieces", ANSWERED, [HELLO[:4], HELLO[4:20], HELLO[20:]]),
         ("a file that comes byte by byte", ANSWERED, [HELLO[at:at + 1] for at in range(len(HELLO))]),
-        ("a file of two pieces, the second of which breaks a rule", NO_STACK, [HELLO, HELLO]),
-        ("a file of two pieces that is too long", LONG, [front + body, b"h"]),
-        ("a pipe that nothing comes through", NO_STACK, []),
+        ("a file of two pieces, the second of which breaks a rule", bad_stack(2, 2), [HELLO, b"rnu echo\n"]),
+        ("a file of two pieces, cut inside a line end", bad_stack(3, 6), [HELLO[:-1], b"\n\nend"]),
+        ("a file of two pieces that is too long", LONG, [most, b"\n"]),
+        ("a pipe that nothing comes through", bad_stack(1, 8), []),
     ]:
         slow = threading.Thread(target=send_slowly, args=(pieces,))
         if os.path.exists("slow"):
@@ -115,143 +230,10 @@ def check_closed_files(checks):
     try:
         checks.wants("this user may read others", ANSWERED, "once", "hello.stack", stdin=GET, **how)
         checks.wants("a file that may not be read", UNREADABLE, "once", "secret", stdin=GET, **how)
-        checks.wants("a file in a folder that may not be entered", UNREADABLE, "once", "closed/hello.stack", stdin=GET, **how)
-        checks.wants("no such file in a folder that may not be entered", UNREADABLE, "once", "closed/nofile", stdin=GET, **how)
+        checks.wants("a file in a folder that may not be entered", UNREADABLE, "once", "closed/hello.stack", stdin=GET,
+                     **how)
+        checks.wants("no such file in a folder that may not be entered", UNREADABLE, "once", "closed/nofile", stdin=GET,
+                     **how)
     except (PermissionError, subprocess.SubprocessError) as e:
         checks.pass_over("files that may not be read", f"no other user can be tried here ({e})")
     os.chmod("closed", 0o700)
-
-
-def check_stacks(checks):
-    checks.begin("stack files")
-    for name, text in [
-        ("empty", b""),
-        ("a line end alone", b"\n"),
-        ("a CR", b"run text 200 text/plain hello\r\n"),
-        ("a NUL", b"run text 200 text/plain hel\0lo\n"),
-        ("a NUL at the end", b"run text 200 text/plain hello\n\0"),
-        ("two spaces", b"run text 200 text/plain  hello\n"),
-        ("two spaces further in front", b"run  text 200 text/plain hello\n"),
-        ("a space in front", b" run text 200 text/plain hello\n"),
-        ("a space behind", b"run text 200 text/plain hello \n"),
-        ("a tab", b"run text 200 text/plain\thello\n"),
-        ("a second line", HELLO + HELLO),
-        ("a second line that is empty", HELLO + b"\n"),
-        ("a line in front that is empty", b"\n" + HELLO),
-        ("an unknown endpoint", b"run texts 200 text/plain hello\n"),
-        ("an endpoint that only begins like echo", b"run echoes\n"),
-        ("an endpoint that echo begins with", b"run ech\n"),
-        ("echo in capitals", b"run Echo\n"),
-        ("echo with an argument", b"run echo x\n"),
-        ("echo with a space behind", b"run echo \n"),
-        ("echo with a space in front", b" run echo\n"),
-        ("echo behind two spaces", b"run  echo\n"),
-        ("echo with a CR", b"run echo\r\n"),
-        ("echo and an empty line", b"run echo\n\n"),
-        ("echo twice", ECHO + ECHO),
-        ("run alone", b"run\n"),
-        ("another first word", b"use text 200 text/plain hello\n"),
-        ("a first word in capitals", b"RUN text 200 text/plain hello\n"),
-        ("no body", b"run text 200 text/plain\n"),
-        ("an empty body", b"run text 200 text/plain \n"),
-        ("an empty type", b"run text 200  hello\n"),
-        ("a word too many", b"run text 200 text/plain hello there\n"),
-        ("a bad pair in the type", b"run text 200 text\\plain hello\n"),
-        ("the byte 127", b"run text 200 text/plain hello\x7f\n"),
-        ("a byte above 127", b"run text 200 text/plain h\xc3\xa9llo\n"),
-        ("the byte 31", b"run text 200 text/plain hello\x1f\n"),
-        ("a bad pair", b"run text 200 text/plain hel\\qlo\n"),
-        ("a pair with a capital", b"run text 200 text/plain hel\\Slo\n"),
-        ("a backslash at the end", b"run text 200 text/plain hello\\\n"),
-        ("the empty text beside a byte", b"run text 200 text/plain \\eh\n"),
-        ("the empty text behind a byte", b"run text 200 text/plain h\\e\n"),
-        ("the empty text twice", b"run text 200 text/plain \\e\\e\n"),
-        ("no digit", b"run text 200 text/plain \\x\n"),
-        ("one digit", b"run text 200 text/plain \\x4\n"),
-        ("a digit that is none", b"run text 200 text/plain \\x4g\n"),
-        ("a capital x", b"run text 200 text/plain \\X41\n"),
-        ("a bad pair among the pieces", b"run pieces 200 a \\q b\n"),
-        ("a bad pair in a status", b"run text 2\\q0 text/plain hello\n"),
-        ("an escaped name", b"run \\x65cho\n"),
-        ("an escaped verb", b"\\x72un echo\n"),
-        ("an escaped space between words", b"run\\secho\n"),
-        ("a status of 99", b"run text 99 text/plain hello\n"),
-        ("a status of 1000", b"run text 1000 text/plain hello\n"),
-        ("a status of 0", b"run text 0 text/plain hello\n"),
-        ("a status with a sign", b"run text +200 text/plain hello\n"),
-        ("a status in hexadecimal", b"run text 0xc8 text/plain hello\n"),
-        ("a status that isn't one", b"run text ok text/plain hello\n"),
-        ("an empty status", b"run text \\e text/plain hello\n"),
-        ("a status of 2^128 and 200", b"run text 340282366920938463463374607431768211656 text/plain hello\n"),
-        ("text without arguments", b"run text\n"),
-        ("env with an argument", b"run env x\n"),
-        ("env with an empty argument", b"run env \\e\n"),
-        ("pieces without a status", b"run pieces\n"),
-        ("pieces with a status of 99", b"run pieces 99 a\n"),
-        ("pieces with a status of 1000", b"run pieces 1000 a\n"),
-        ("pieces that begin with no status", b"run pieces a b\n"),
-        ("two spaces between pieces", b"run pieces 200 a  b\n"),
-        ("two spaces between values", b"run stream a  b\n"),
-        ("stream and a space", b"run stream \n"),
-        ("cookies without a value", b"run cookies\n"),
-        ("bad without a number", b"run bad\n"),
-        ("bad with 0", b"run bad 0\n"),
-        ("bad with 9", b"run bad 9\n"),
-        ("bad with 11", b"run bad 11\n"),
-        ("bad with 257", b"run bad 257\n"),
-        ("bad with a word", b"run bad x\n"),
-        ("bad with an empty word", b"run bad \\e\n"),
-        ("bad with nine numbers", b"run bad 1 2 3 4 5 6 7 8 10\n"),
-        ("bad with a list", b"run bad 1,2\n"),
-        ("raise without a text", b"run raise\n"),
-        ("raise with two texts", b"run raise a b\n"),
-        ("late without a length", b"run late\n"),
-        ("late with a word for its length", b"run late x\n"),
-        ("late with an exclamation mark for its length", b"run late !\n"),
-        ("late with a length above the most", b"run late 1000001\n"),
-        ("late with a negative length", b"run late -1\n"),
-        ("late with an empty length", b"run late \\e a\n"),
-        ("take", b"run take echo\n"),
-        ("part", b"run part 200 echo\n"),
-        ("another endpoint in capitals", b"run TEXT 200 text/plain hello\n"),
-        ("a middleware", b"use head\n"),
-        ("a middleware in front", b"use head\nrun echo\n"),
-        ("a place", b"map /a\n"),
-        ("a comment", b"# c\n"),
-        ("a comment in front", b"# c\nrun echo\n"),
-        ("a byte above 127 in a piece", b"run pieces 200 \xff\n"),
-    ]:
-        checks.wants(name, NO_STACK, "once", write("stack", text), stdin=GET)
-        # The rules on which the other cases rest say the same.
-        checks.counts(name + ", by the rules", None, endpoint_of(text))
-    write("stack", b"run echoes\n")
-    checks.wants("a bad stack before a failed read", NO_STACK, "once", "stack", stdin="/")
-    for name, want, text in [
-        ("echo without a line end", reply(b""), ECHO[:-1]),
-        ("no line end", reply(b"hello"), HELLO[:-1]),
-        ("the first and the last byte", reply(b"~", b"!"), b"run text 200 ! ~\n"),
-        ("a space in the body", reply(b"hel lo"), b"run text 200 text/plain hel\\slo\n"),
-        ("a status with zeros in front", reply(b"hello"), b"run text 000200 text/plain hello\n"),
-        ("a status that is escaped", reply(b"hello"), b"run text \\x32\\x30\\x30 text/plain hello\n"),
-        ("a body that is a comment's sign", reply(b"#"), b"run text 200 text/plain #\n"),
-        ("an empty body", reply(b""), b"run text 200 text/plain \\e\n"),
-        ("an empty type", reply(b"hello", b""), b"run text 200 \\e hello\n"),
-        ("a body of line ends", reply(b"\r\n\r\n"), b"run text 200 text/plain \\r\\n\\r\\n\n"),
-        ("a backslash", reply(b"\\"), b"run text 200 text/plain \\\\\n"),
-        ("a backslash and a letter", reply(b"\\e"), b"run text 200 text/plain \\\\e\n"),
-        ("digits in capitals", reply(b"\xab"), b"run text 200 text/plain \\xAB\n"),
-        ("digits in both", reply(b"\xab"), b"run text 200 text/plain \\xAb\n"),
-        ("letters that need no escape", reply(b"hello"), b"run text 200 text/plain \\x68\\x65\\x6c\\x6C\\x6f\n"),
-        ("a type with a parameter", reply(b"hello", b"text/html; charset=utf-8"),
-         b"run text 200 text/html;\\scharset=utf-8 hello\n"),
-    ]:
-        checks.wants(name, (0, want, b""), "once", write("stack", text), stdin=GET)
-    # Each byte in an argument, by its two digits and as it is written.
-    for byte in range(256):
-        text = bytes([byte])
-        for word, body in [(b"\\x%02x" % byte, text), (escaped(text), text), (b"a" + escaped(text) + b"b", b"a" + text + b"b")]:
-            checks.wants(f"the byte {byte} as {word!r}", (0, reply(body), b""), "once",
-                         write("stack", b"run text 200 text/plain " + word + b"\n"), stdin=GET)
-    every = bytes(range(256))
-    checks.wants("all bytes", (0, reply(every), b""), "once",
-                 write("stack", b"run text 200 text/plain " + escaped(every) + b"\n"), stdin=GET)

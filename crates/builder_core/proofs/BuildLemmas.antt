@@ -1,5 +1,5 @@
 -- What is known of a plan that builds.
-use Rattle.std.proofs.Common.{◌≡◌, ℕ, ◌<◌, ◌≤◌, List, Option, Some, None, refl, sym, ap, ◌∙◌, arith}
+use Rattle.std.proofs.Common.{◌≡◌, ℕ, List, Some, None, refl, sym, ap, ◌∙◌, arith}
 use Rattle.rack_types.specs.Env.{Pairs}
 use Rattle.builder_core.specs.Build.{build_plan}
 use Rattle.builder_core.specs.Builds.{Builds, HasFault, IsSmall}

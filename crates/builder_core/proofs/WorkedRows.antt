@@ -8,7 +8,7 @@ use Rattle.builder_core.specs.Build.{build_plan, plan_size, plan_height}
 use Rattle.builder_core.specs.Meaning.{Answering, meaning, nothing, not_found}
 use Rattle.builder_core.specs.Places.{fits}
 use Rattle.builder_core.specs.Plan.{Plan, Done, Then, Uses, Ends, Holds, EndsAny}
-use Rattle.builder_core.specs.Tree.{Tree, Calls, Wraps, ByPlace, Tries, Row, NoPlace, Place}
+use Rattle.builder_core.specs.Tree.{Tree, Calls, Wraps, ByPlace, Tries, NoPlace, Place}
 
 -- a place ends where a segment does
 places_fit : (fits (codes "/foo") (codes "/foo") ≡ true) × (fits (codes "/foo/") (codes "/foo") ≡ true) × (fits (codes "/foobar") (codes "/foo") ≡ false) × (fits (codes "/fo") (codes "/foo") ≡ false)

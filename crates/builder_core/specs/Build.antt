@@ -6,7 +6,6 @@ use Rattle.builder_core.specs.Tree.{Tree, Calls, Wraps, ByPlace, Tries, Row, NoP
 use Rattle.builder_core.specs.Plan.{Plan, Item, Done, Then, Uses, Holds, EndsAny, plan, item}
 use Rattle.builder_core.specs.Plan as plans
 use Rattle.builder_core.specs.declared.steps.Steps.{Steps}
-use Rattle.builder_core.specs.declared.steps.Line.{Line}
 
 -- a block, as what it builds with a default: None where it has no application
 abbrev pub Block : Type 0 → Type 0

@@ -1,4 +1,4 @@
--- Building from the last line to the first, and lists of nodes that grow.
+-- Building from the last line to the first, and lists of nodes that grow; of private functions alone.
 use Rattle.std.specs.Prelude.{◌≡◌, ℕ, ◌<◌, ◌≤◌, List, [], ◌∷◌, map, length, Option, Some, None, option_map, option_and_then, slice_get, ⊤}
 use Rattle.builder_core.specs.Tree.{Tree, Calls, Tries, Wraps, ByPlace, Row, NoPlace, Place}
 use Rattle.builder_core.specs.Build.{Part, Wears, Ends, At, default_row, last_end}

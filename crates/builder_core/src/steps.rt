@@ -30,7 +30,8 @@ pub struct Steps<E> {
 /// Why steps have no stack.
 #[derive(Clone, Copy, Debug, Drop, PartialEq, Eq)]
 pub enum BuildFault {
-    /// A block, or the whole, has no application: neither a `Run` or `Cascade` of its own nor a default.
+    /// A block, or the whole, has no application: no `Run` or `Cascade` of its own and no default, and at its
+    /// end no `Map` either, which answers a block without them.
     NoRun,
     /// Something stands deeper than 32. The whole has the depth 0, and what stands in a `Map` or
     /// `Cascade` has one more than that line; an empty one counts too.

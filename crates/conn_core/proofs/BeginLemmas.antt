@@ -1,5 +1,5 @@
 -- What stands once a request was run or a refusal is named.
-use Rattle.std.proofs.Common.{◌≡◌, ◌≢◌, ℕ, suc, ◌+◌, ◌<◌, ◌≤◌, Bool, false, List, [], ◌++◌, length, refl, sym, ap, subst, ◌∙◌, arith, length-append, Option, None}
+use Rattle.std.proofs.Common.{◌≡◌, ℕ, suc, ◌+◌, ◌<◌, Bool, List, [], ◌++◌, length, sym, ap, subst, ◌∙◌, arith, None}
 use Rattle.std.proofs.lemmas.List.{append-nil}
 use Rattle.rack_types.specs.declared.answer.Answer.{Answer}
 use Rattle.rack_types.specs.declared.fault.Fault.{Fault}
@@ -19,9 +19,9 @@ use Rattle.reply_framing.specs.Fault.{fault_reply}
 use Rattle.reply_framing.specs.Hands.{HandsToNobody}
 use Rattle.reply_framing.specs.Owes.{StandsFor}
 use Rattle.reply_framing.specs.Reply.{WholeReply, reply, body_after}
-use Rattle.reply_framing.proofs.CallerLemmas.{owes_at_start, reply_keeps_hold, reply_says, fault_some}
+use Rattle.reply_framing.proofs.CallerLemmas.{owes_at_start, reply_keeps_hold, reply_says}
 use Rattle.talk_core.specs.declared.ended.Why.TheVariants as why
-use Rattle.talk_core.specs.Stands.{Stands, silent, replies, refuses}
+use Rattle.talk_core.specs.Stands.{Stands, replies, refuses}
 use Rattle.talk_core.specs.Tail.{Voice}
 use Rattle.talk_core.specs.Teller.{Stack, Teller, reply_of, ask_of, is_last}
 use Rattle.talk_core.proofs.CallerLemmas.{stands_asked, stands_refused, reply_keeps, not_last_below}

@@ -1,8 +1,7 @@
 -- What stands once the link took all of the ring.
-use Rattle.std.proofs.Common.{◌≡◌, ℕ, suc, ◌+◌, ◌<◌, Bool, true, false, List, [], ◌∷◌, ◌++◌, length, refl, sym, ap, subst, ◌∙◌, arith}
+use Rattle.std.proofs.Common.{◌≡◌, ℕ, suc, ◌+◌, ◌<◌, Bool, true, false, List, [], ◌++◌, length, refl, sym, subst, ◌∙◌, arith}
 use Rattle.rack_outside.specs.Link.{Seen}
 use Rattle.message_framing.specs.declared.intake.Intake.{Intake}
-use Rattle.reply_framing.specs.declared.types.After.TheVariants.{Keep, Close}
 use Rattle.talk_core.specs.declared.ended.Why.TheVariants as why
 use Rattle.talk_core.specs.Stands.{Stands, silent, replies, refuses}
 use Rattle.talk_core.specs.Tail.{Voice}
@@ -13,11 +12,13 @@ use Rattle.conn_core.specs.declared.place.At.{At}
 use Rattle.conn_core.specs.declared.place.At.TheVariants as at
 use Rattle.conn_core.specs.Holds.{Kept, past, HoldsAt, StandsAt}
 use Rattle.conn_core.specs.Inner.{IsFilledAt}
+use Rattle.conn_core.specs.Place.{IsSaying}
 use Rattle.reply_framing.specs.Reply.{body_after}
 use Rattle.conn_core.specs.Rests.{GoesOn, RestsAt}
 use Rattle.conn_core.specs.Steps.{CompletesTo, HasRequest}
 use Rattle.conn_core.proofs.FeedLemmas.{feeds_hold, feeds_rest, fed_kept}
 use Rattle.conn_core.proofs.PlaceLemmas.{kept_same}
+use Rattle.conn_core.proofs.SaidLemmas.{filled_says}
 
 -- where the connection goes on a whole request stands
 pub has_request : {B H : Type 0} (a : At B H) (intake : Intake) (held ring : List ℕ) (calls : ℕ) → RestsAt a intake held ring calls → HasRequest a intake
@@ -40,7 +41,7 @@ module _ {B H : Type 0} (V : Voice H) (T : Teller H) (s : Seen) (over : Bool) (g
       (subst (λ (k : Kept). HoldsAt a V T s over given sent k)
       (kept_same c (fed_kept new left c.calls) i l (sym none) refl) h)
 
-  completes_at : (a b : At B H) → CompletesTo a c.intake c.held b new left → IsFilledAt a (0 ∷ []) → HoldsAt a V T s over given sent c
+  completes_at : (a b : At B H) → CompletesTo a c.intake c.held b new left → IsSaying a → HoldsAt a V T s over given sent c
       → HoldsAt b V T s over given sent (fed_kept new left c.calls)
   completes_at at.Reading b e is h = absurd is
   completes_at at.Asked b e is h = absurd is
@@ -72,16 +73,7 @@ module _ {B H : Type 0} (V : Voice H) (T : Teller H) (s : Seen) (over : Bool) (g
       subst (λ (d : At B H). HoldsAt d V T s over given sent (fed_kept new left c.calls)) (sym e.0) closes
   completes_at (at.Over ended) b e is h = absurd is
 
--- a place that owes bytes owes them with any in the ring
-filled_some : {B H : Type 0} (a : At B H) (ring : List ℕ) → IsFilledAt a ring → IsFilledAt a (0 ∷ [])
-filled_some {B} {H} at.Reading ring is = absurd is
-filled_some {B} {H} at.Asked ring is = absurd is
-filled_some {B} {H} (at.Refused f) ring is = absurd is
-filled_some {B} {H} (at.Answering f) ring is = let one : 0 < length {A = ℕ} (0 ∷ []) = omega arith in (one, is.1)
-filled_some {B} {H} (at.Writing keeps) ring is = let one : 0 < length {A = ℕ} (0 ∷ []) = omega arith in one
-filled_some {B} {H} at.Refusing ring is = let one : 0 < length {A = ℕ} (0 ∷ []) = omega arith in one
-filled_some {B} {H} (at.Over ended) ring is = absurd is
-
+-- the link took all of the ring
 pub completes_hold : {B H : Type 0} (V : Voice H) (T : Teller H) (s : Seen) (peer : List ℕ) (c : Kept) (new : Intake) (left before ring : List ℕ) (a b : At B H)
     → c.ring ≡ [] → ring ≡ c.ring → CompletesTo a c.intake c.held b new left → IsFilledAt a before → StandsAt V T s peer a c
     → StandsAt V T s peer b (record { intake = new; held = left; ring = ring; calls = c.calls })
@@ -91,7 +83,7 @@ completes_hold {B} {H} V T s peer c new left before ring a b none same e is h = 
   over = h.over;
   shows = h.shows;
   at = subst (λ (x : List ℕ). HoldsAt b V T s h.over h.given h.sent (record { intake = new; held = left; ring = x; calls = c.calls }))
-      (sym (same ∙ none)) (completes_at V T s h.over h.given h.sent c new left none a b e (filled_some a before is) h.at);
+      (sym (same ∙ none)) (completes_at V T s h.over h.given h.sent c new left none a b e (filled_says a before is) h.at);
 }
 
 -- safety behind it

@@ -1,6 +1,5 @@
 -- A connection at its start, at its end, and while it lives.
-use Rattle.std.proofs.Common.{◌≡◌, ◌≢◌, ℕ, suc, ◌+◌, ◌<◌, Bool, true, false, List, [], ◌∷◌, ◌++◌, length, refl, sym, ap, subst, ◌∙◌, arith, length-append, Option, None, Some}
-use Rattle.std.proofs.lemmas.List.{append-nil}
+use Rattle.std.proofs.Common.{◌≡◌, ◌≢◌, ℕ, ◌+◌, ◌<◌, Bool, false, List, [], ◌∷◌, ◌++◌, length, refl, sym, ap, subst, ◌∙◌, arith, length-append, None}
 use Rattle.rack_types.specs.declared.answer.Answer.{Answer}
 use Rattle.rack_types.specs.declared.body.Body.{Ghosts}
 use Rattle.rack_types.specs.Body.{Content}
@@ -13,11 +12,10 @@ use Rattle.reply_framing.specs.Reply.{reply}
 use Rattle.message_framing.specs.declared.intake.Intake.{Intake}
 use Rattle.message_framing.specs.Intake.{Fed}
 use Rattle.message_framing.proofs.CallerLemmas.{wanting_nil}
-use Rattle.talk_core.specs.declared.ended.Ended.{Ended}
 use Rattle.talk_core.specs.declared.ended.Life.{Life}
 use Rattle.talk_core.specs.declared.ended.Why.{Why}
 use Rattle.talk_core.specs.declared.ended.Why.TheVariants as why
-use Rattle.talk_core.specs.Ended.{Shows, AreLives, AreEndedLives, IsEnded, StandsForTalk, IsTimed, EndsBy, Past, past_of}
+use Rattle.talk_core.specs.Ended.{Shows, AreLives, AreEndedLives, IsEnded, StandsForTalk, IsTimed, EndsBy, Past}
 use Rattle.talk_core.specs.Stands.{Word, Stands, silent, replies, refuses, Partly}
 use Rattle.talk_core.specs.Tail.{Voice}
 use Rattle.talk_core.specs.Teller.{Stack, Stacks, Teller, tell, last_phase, reply_of, ask_of, is_last}
@@ -26,7 +24,7 @@ use Rattle.conn_core.specs.declared.inside.Inside.{Inside}
 use Rattle.conn_core.specs.declared.place.At.{At}
 use Rattle.conn_core.specs.declared.place.At.TheVariants as at
 use Rattle.conn_core.specs.declared.state.State.TheVariants as state
-use Rattle.conn_core.specs.Holds.{Kept, kept, past, Between, Replying, HoldsAt, StandsAt, HoldsBy}
+use Rattle.conn_core.specs.Holds.{Kept, kept, past, Replying, HoldsAt, StandsAt, HoldsBy}
 use Rattle.conn_core.specs.Inner.{TellsBy}
 use Rattle.conn_core.specs.Opened.{IsFresh}
 use Rattle.conn_core.specs.Place.{IsSaying, state_at}

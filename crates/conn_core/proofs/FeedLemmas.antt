@@ -1,10 +1,9 @@
 -- What stands behind the bytes held, once they were fed.
-use Rattle.std.proofs.Common.{◌≡◌, ℕ, ◌+◌, ◌<◌, Bool, List, [], ◌++◌, length, take, drop, refl, sym, ap, subst, ◌∙◌, append_assoc, arith}
+use Rattle.std.proofs.Common.{◌≡◌, ℕ, ◌+◌, ◌<◌, Bool, List, [], ◌++◌, take, drop, refl, sym, ap, subst, ◌∙◌, append_assoc, arith}
 use Rattle.std.proofs.lemmas.List.{append-nil, take-append-drop}
 use Rattle.rack_outside.specs.Link.{Seen}
-use Rattle.message_framing.specs.declared.intake.Feed.TheVariants as feed
 use Rattle.message_framing.specs.declared.intake.Intake.{Intake}
-use Rattle.message_framing.specs.Intake.{Fed, AnswersRightly, RefusesMemory}
+use Rattle.message_framing.specs.Intake.{Fed}
 use Rattle.talk_core.specs.declared.ended.Why.TheVariants as why
 use Rattle.talk_core.specs.Stands.{Stands, silent}
 use Rattle.talk_core.specs.Tail.{Voice}

@@ -1,10 +1,8 @@
 -- What stands once the ring was filled.
-use Rattle.std.proofs.Common.{◌≡◌, ◌≢◌, ◌↔◌, ℕ, suc, ◌+◌, ◌-◌, ◌<◌, ◌≤◌, Bool, true, false, IsTrue, List, [], ◌++◌, length, refl, sym, ap, subst, ◌∙◌, arith, length-append, Option, None, Some, Result, Ok, Err}
+use Rattle.std.proofs.Common.{◌≡◌, ◌≢◌, ◌↔◌, ℕ, ◌+◌, ◌<◌, Bool, true, false, IsTrue, List, [], ◌++◌, length, refl, sym, ap, subst, ◌∙◌, arith, length-append, Option, Ok}
 use Rattle.std.proofs.lemmas.List.{append-nil}
-use Rattle.std.specs.declared.alloc.AllocError.{AllocError}
 use Rattle.circular_buffer.specs.Buffer.{Buffer}
 use Rattle.rack_types.specs.declared.rules.BodyRule.{BodyRule}
-use Rattle.rack_types.specs.Request.{Parts}
 use Rattle.rack_outside.specs.Link.{Seen}
 use Rattle.message_framing.specs.declared.intake.Intake.{Intake}
 use Rattle.reply_framing.specs.declared.types.After.{After}
@@ -13,21 +11,17 @@ use Rattle.reply_framing.specs.declared.types.Filled.{Filled}
 use Rattle.reply_framing.specs.declared.types.Filled.TheVariants.{Full, Done, Broke}
 use Rattle.reply_framing.specs.Coming.{Coming, Rest}
 use Rattle.reply_framing.specs.Fills.{Fills, after_then}
-use Rattle.reply_framing.specs.Owes.{Owes}
-use Rattle.reply_framing.specs.Reply.{WholeReply, body_after}
-use Rattle.reply_framing.proofs.CallerLemmas.{owes_fill, after_done, after_broke, fill_moves}
+use Rattle.reply_framing.specs.Reply.{body_after}
+use Rattle.reply_framing.proofs.CallerLemmas.{owes_fill, fill_moves}
 use Rattle.talk_core.specs.declared.ended.Why.TheVariants as why
 use Rattle.talk_core.specs.Stands.{Stands, replies}
 use Rattle.talk_core.specs.Tail.{Voice}
 use Rattle.talk_core.specs.Teller.{Teller}
 use Rattle.conn_core.specs.declared.place.At.{At}
 use Rattle.conn_core.specs.declared.place.At.TheVariants as at
-use Rattle.conn_core.specs.declared.state.State.TheVariants as state
-use Rattle.conn_core.specs.Holds.{Kept, past, Replying, HoldsAt, StandsAt}
-use Rattle.conn_core.specs.Inner.{IsFilledAt}
-use Rattle.conn_core.specs.Place.{IsSaying, state_at}
+use Rattle.conn_core.specs.Holds.{Kept, HoldsAt, StandsAt}
+use Rattle.conn_core.specs.Place.{IsSaying}
 use Rattle.conn_core.specs.Rests.{GoesOn, RestsAt, after_of}
-use Rattle.conn_core.specs.Shown.{owed_at, replied_at, why_at}
 use Rattle.conn_core.specs.Steps.{Written, FillsFrom, FillsTo}
 use Rattle.conn_core.proofs.BeginLemmas.{unsaid}
 use Rattle.conn_core.proofs.SayLemmas.{with_ring}

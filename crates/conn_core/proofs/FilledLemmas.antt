@@ -1,5 +1,5 @@
 -- What a connection shows once the ring was filled.
-use Rattle.std.proofs.Common.{◌≡◌, ◌≢◌, ◌↔◌, ℕ, ◌+◌, ◌-◌, ◌<◌, ◌≤◌, Bool, true, false, IsTrue, List, [], ◌++◌, length, refl, sym, ap, subst, ◌∙◌, arith, Option, None, Some, Result, Ok, Err}
+use Rattle.std.proofs.Common.{◌≡◌, ◌↔◌, ℕ, Bool, true, false, IsTrue, List, refl, sym, ap, subst, ◌∙◌, None, Ok, Err}
 use Rattle.circular_buffer.specs.Buffer.{Buffer}
 use Rattle.rack_types.specs.declared.peer.Local.{Local}
 use Rattle.message_framing.specs.declared.intake.Intake.{Intake}
@@ -10,6 +10,7 @@ use Rattle.talk_core.specs.declared.ended.Why.TheVariants as why
 use Rattle.conn_core.specs.declared.place.At.{At}
 use Rattle.conn_core.specs.declared.place.At.TheVariants as at
 use Rattle.conn_core.specs.Inner.{FillsShown, IsFilledAt}
+use Rattle.conn_core.specs.Moves.{ring_room}
 use Rattle.conn_core.specs.Place.{IsSaying, state_at}
 use Rattle.conn_core.specs.Rests.{RestsAt}
 use Rattle.conn_core.specs.Shown.{Shown, owed_at, replied_at, why_at}
@@ -122,7 +123,7 @@ module _ {B H : Type 0} (peer : List ℕ) (local : Local) (lives : List Life) (c
 
 -- what is said next is in the ring
 pub fills_some : {B H : Type 0} (a b : At B H) (x y : Buffer ℕ) (intake : Intake) (held : List ℕ) (calls : ℕ) → FillsTo a x b y → IsSaying a
-    → 0 < y.capacity → RestsAt b intake held y.items calls → IsSaying b → IsFilledAt b y.items
+    → y.capacity ≡ ring_room → RestsAt b intake held y.items calls → IsSaying b → IsFilledAt b y.items
 fills_some {B} {H} a at.Reading x y intake held calls e is room rests then = absurd then
 fills_some {B} {H} a at.Asked x y intake held calls e is room rests then = absurd then
 fills_some {B} {H} a (at.Refused f) x y intake held calls e is room rests then = absurd then
@@ -130,7 +131,7 @@ fills_some {B} {H} at.Reading (at.Answering new) x y intake held calls e is room
 fills_some {B} {H} at.Asked (at.Answering new) x y intake held calls e is room rests then = absurd is
 fills_some {B} {H} (at.Refused f) (at.Answering new) x y intake held calls e is room rests then = absurd is
 fills_some {B} {H} (at.Answering f) (at.Answering new) x y intake held calls e is room rests then =
-    let some : 0 < length y.items = omega (arith, e.0.answer.1, room) in (some, e.0.answer.0)
+    (e.0.answer.1 ∙ room, e.0.answer.0)
 fills_some {B} {H} (at.Writing keeps) (at.Answering new) x y intake held calls e is room rests then = absurd (cc e.0)
 fills_some {B} {H} at.Refusing (at.Answering new) x y intake held calls e is room rests then = absurd (cc e.0)
 fills_some {B} {H} (at.Over ended) (at.Answering new) x y intake held calls e is room rests then = absurd is

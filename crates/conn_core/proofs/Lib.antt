@@ -10,6 +10,9 @@ pub mod FilledLemmas
 pub mod CompleteLemmas
 pub mod ShownLemmas
 pub mod MovedLemmas
+pub mod MoveLemmas
+pub mod MovingLemmas
+pub mod FedLemmas
 pub mod TurnLemmas
 pub mod SaidLemmas
 pub mod SaysLemmas

@@ -1,5 +1,5 @@
 -- What several parts of a call leave, one behind the other.
-use Rattle.std.proofs.Common.{◌≡◌, ℕ, ◌+◌, ◌-◌, ◌≤◌, List, [], ◌++◌, length, length-append, append_assoc, refl, sym, ap, subst, ◌∙◌, arith, Option, None, Some}
+use Rattle.std.proofs.Common.{◌≡◌, ℕ, ◌+◌, ◌≤◌, List, [], ◌++◌, length, length-append, append_assoc, refl, sym, ap, subst, ◌∙◌, arith, Option, None, Some}
 use Rattle.rack_outside.specs.Link.{Seen, marked}
 use Rattle.rack_outside.specs.Told.{appended}
 use Rattle.rack_outside.proofs.CallerLemmas.{rose_within}
@@ -8,7 +8,7 @@ use Rattle.talk_core.specs.declared.ended.Why.{Why}
 use Rattle.talk_core.specs.declared.ended.Why.TheVariants as why
 use Rattle.talk_core.proofs.CallerLemmas.{counted_more}
 use Rattle.conn_core.specs.Calls.{TurnEnds}
-use Rattle.conn_core.specs.Inner.{SameShown}
+use Rattle.conn_core.specs.Moves.{SameShown}
 use Rattle.conn_core.specs.Shown.{Shown, Moved}
 use Rattle.conn_core.proofs.ShownLemmas.{appended_nil}
 

@@ -1,5 +1,5 @@
 -- What stands behind a read.
-use Rattle.std.proofs.Common.{◌≡◌, ℕ, ◌+◌, ◌<◌, Bool, true, List, [], ◌++◌, refl, sym, ap, subst, ◌∙◌, append_assoc, arith, inl}
+use Rattle.std.proofs.Common.{◌≡◌, ℕ, Bool, true, List, [], ◌++◌, refl, sym, ap, subst, ◌∙◌, inl}
 use Rattle.std.proofs.lemmas.List.{append-nil}
 use Rattle.rack_outside.specs.Link.{Seen, IsOneRead, marked}
 use Rattle.rack_outside.specs.Told.{Rose, appended}
@@ -17,7 +17,7 @@ use Rattle.conn_core.specs.declared.place.At.{At}
 use Rattle.conn_core.specs.declared.place.At.TheVariants as at
 use Rattle.conn_core.specs.Holds.{Kept, past, Between, HoldsAt, StandsAt}
 use Rattle.conn_core.specs.Steps.{FeedsHeld}
-use Rattle.conn_core.proofs.FeedLemmas.{feeds_hold, fed_kept}
+use Rattle.conn_core.proofs.FeedLemmas.{feeds_hold}
 use Rattle.conn_core.proofs.PlaceLemmas.{kept_same}
 
 -- what was sent whole, where nothing stands in what came

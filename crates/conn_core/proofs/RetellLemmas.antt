@@ -1,25 +1,21 @@
 -- What stands for one talk stands for another whose replies are the same to the requests that were run.
-use Rattle.std.proofs.Common.{◌≡◌, ℕ, suc, ◌+◌, ◌<◌, ◌≤◌, Bool, List, [], ◌++◌, length, refl, sym, ap, subst, ◌∙◌, arith, Option, None}
+use Rattle.std.proofs.Common.{◌≡◌, ℕ, suc, ◌≤◌, Bool, List, [], ◌++◌, sym, ap, subst, ◌∙◌, arith, None}
 use Rattle.rack_types.specs.declared.body.Body.{Ghosts}
 use Rattle.rack_types.specs.Request.{Parts}
 use Rattle.rack_outside.specs.Link.{Seen}
-use Rattle.reply_framing.specs.declared.types.After.{After}
-use Rattle.reply_framing.specs.Coming.{Coming}
 use Rattle.reply_framing.specs.Owes.{Owes}
 use Rattle.reply_framing.specs.Reply.{WholeReply}
 use Rattle.talk_core.specs.declared.ended.Why.{Why}
 use Rattle.talk_core.specs.declared.ended.Why.TheVariants as why
-use Rattle.talk_core.specs.Ended.{Past}
-use Rattle.talk_core.specs.Stands.{Word, Stands, silent, replies, refuses}
+use Rattle.talk_core.specs.Stands.{silent, replies, refuses}
 use Rattle.talk_core.specs.Tail.{Voice}
 use Rattle.talk_core.specs.Teller.{Teller, AgreesBelow}
 use Rattle.talk_core.proofs.CallerLemmas.{stands_agrees, partly_agrees, ends_agrees, agrees_same, agrees_trans}
 use Rattle.conn_core.specs.declared.inside.Inside.{Inside}
 use Rattle.conn_core.specs.declared.place.At.{At}
 use Rattle.conn_core.specs.declared.place.At.TheVariants as at
-use Rattle.conn_core.specs.Holds.{Kept, kept, past, Between, Replying, HoldsAt, StandsAt, HoldsBy}
+use Rattle.conn_core.specs.Holds.{Kept, past, Between, Replying, HoldsAt, StandsAt, HoldsBy}
 use Rattle.conn_core.specs.Plain.{EndsPlainly}
-use Rattle.conn_core.specs.Rests.{after_of}
 use Rattle.conn_core.specs.Runs.{RunsBy}
 
 module _ {H : Type 0} (V : Voice H) (T U : Teller H) (s : Seen) (over : Bool) (given sent : List ℕ) (c : Kept) (same : AgreesBelow c.calls T U) where

@@ -1,13 +1,11 @@
 -- What a connection shows behind a write.
-use Rattle.std.proofs.Common.{◌≡◌, ◌≢◌, ℕ, ◌+◌, ◌-◌, ◌<◌, ◌≤◌, Bool, true, false, List, [], ◌++◌, length, refl, sym, ap, subst, ◌∙◌, arith, length-append, Option, None, Some}
+use Rattle.std.proofs.Common.{◌≡◌, ℕ, ◌-◌, ◌<◌, ◌≤◌, Bool, true, false, List, [], ◌++◌, length, refl, sym, ap, subst, ◌∙◌, arith, length-append, Some}
 use Rattle.rack_outside.specs.Link.{Seen, IsOneWrite}
-use Rattle.rack_outside.specs.Told.{appended}
 use Rattle.message_framing.specs.declared.intake.Intake.{Intake}
 use Rattle.talk_core.specs.declared.ended.Why.{Why}
 use Rattle.talk_core.specs.declared.ended.Why.TheVariants as why
 use Rattle.conn_core.specs.declared.place.At.{At}
 use Rattle.conn_core.specs.declared.place.At.TheVariants as at
-use Rattle.conn_core.specs.declared.state.State.{State}
 use Rattle.conn_core.specs.declared.state.State.TheVariants as state
 use Rattle.conn_core.specs.Calls.{TurnEnds, IsOfFlush}
 use Rattle.conn_core.specs.Inner.{SaysOn, IsFilledAt}
@@ -54,7 +52,7 @@ pub filled_ring : {B H : Type 0} (a : At B H) (ring : List ℕ) → IsFilledAt a
 filled_ring {B} {H} at.Reading ring is = absurd is
 filled_ring {B} {H} at.Asked ring is = absurd is
 filled_ring {B} {H} (at.Refused f) ring is = absurd is
-filled_ring {B} {H} (at.Answering f) ring is = is.0
+filled_ring {B} {H} (at.Answering f) ring is = omega (arith, is.0)
 filled_ring {B} {H} (at.Writing keeps) ring is = is
 filled_ring {B} {H} at.Refusing ring is = is
 filled_ring {B} {H} (at.Over ended) ring is = absurd is
@@ -145,7 +143,7 @@ said_whole {B} {H} (at.Answering framer) b before calls s s' old new held left e
       replied = refl;
       why = tt;
       ends = over;
-      less = λ x. more f.0;
+      less = λ x. more (filled_ring {B = B} {H = H} (at.Answering framer) before f);
     })
   where
     more : 0 < length before → length ([] ++ framer.rest.bytes) < length (before ++ framer.rest.bytes)

@@ -1,40 +1,19 @@
 -- What stands while something is said.
-use Rattle.std.proofs.Common.{◌≡◌, ◌≢◌, ◌↔◌, ℕ, suc, ◌+◌, ◌<◌, ◌≤◌, Bool, true, false, IsTrue, List, [], ◌++◌, length, refl, sym, ap, subst, ◌∙◌, append_assoc, arith, length-append, Option, None, Some, Result, Ok, Err}
+use Rattle.std.proofs.Common.{◌≡◌, ℕ, ◌+◌, ◌<◌, Bool, List, [], ◌++◌, length, sym, ap, subst, ◌∙◌, append_assoc, arith}
 use Rattle.std.proofs.lemmas.List.{append-nil}
-use Rattle.std.specs.declared.alloc.AllocError.{AllocError}
-use Rattle.circular_buffer.specs.Buffer.{Buffer}
-use Rattle.rack_types.specs.declared.fault.Fault.{Fault}
-use Rattle.rack_types.specs.Request.{Parts}
 use Rattle.rack_outside.specs.Link.{Seen, IsOneWrite}
 use Rattle.rack_outside.specs.Told.{Rose, appended}
 use Rattle.rack_outside.proofs.CallerLemmas.{rose_some}
-use Rattle.message_framing.specs.declared.intake.Intake.{Intake}
-use Rattle.message_framing.specs.Intake.{Fed}
-use Rattle.reply_framing.specs.declared.types.After.{After}
-use Rattle.reply_framing.specs.declared.types.After.TheVariants.{Keep, Close, Hijack}
-use Rattle.reply_framing.specs.declared.types.Filled.{Filled}
-use Rattle.reply_framing.specs.declared.types.Filled.TheVariants.{Full, Done, Broke}
-use Rattle.reply_framing.specs.Coming.{Coming}
-use Rattle.reply_framing.specs.Fault.{fault_reply}
-use Rattle.reply_framing.specs.Fills.{Fills, after_then}
-use Rattle.reply_framing.specs.Owes.{Owes}
-use Rattle.reply_framing.specs.Reply.{WholeReply, body_after}
-use Rattle.reply_framing.proofs.CallerLemmas.{owes_fill, after_done, after_broke, fill_moves, close_else}
 use Rattle.talk_core.specs.declared.ended.Why.TheVariants as why
-use Rattle.talk_core.specs.Stands.{Word, Stands, silent, replies, refuses, asked_by, IsPlain}
+use Rattle.talk_core.specs.Stands.{Word, Stands, replies, refuses, asked_by, IsPlain}
 use Rattle.talk_core.specs.Tail.{Voice}
-use Rattle.talk_core.specs.Talk.{refused, closed}
 use Rattle.talk_core.specs.Teller.{Teller}
-use Rattle.talk_core.proofs.CallerLemmas.{lacks_some, stands_sent, stands_kept, whole_closed, whole_refused, shows_sent, shows_unsent}
+use Rattle.talk_core.proofs.CallerLemmas.{lacks_some, stands_sent, shows_sent, shows_unsent}
 use Rattle.conn_core.specs.declared.place.At.{At}
 use Rattle.conn_core.specs.declared.place.At.TheVariants as at
-use Rattle.conn_core.specs.Holds.{Kept, past, Between, Replying, HoldsAt, StandsAt}
+use Rattle.conn_core.specs.Holds.{Kept, past, HoldsAt, StandsAt}
 use Rattle.conn_core.specs.Place.{IsSaying}
 use Rattle.conn_core.specs.Plain.{EndsPlainly}
-use Rattle.conn_core.specs.Rests.{after_of}
-use Rattle.conn_core.specs.Steps.{Written, FillsFrom, FillsTo, FeedsHeld, CompletesTo}
-use Rattle.conn_core.proofs.FeedLemmas.{feeds_hold, fed_kept}
-use Rattle.conn_core.proofs.BeginLemmas.{unsaid}
 
 -- the parts with other bytes in the ring
 abbrev pub with_ring : Kept → List ℕ → Kept

@@ -2,7 +2,7 @@
 use Rattle.std.proofs.Common.{◌≡◌, ◌≢◌, ◌↔◌, ℕ, ◌+◌, ◌-◌, ◌<◌, ◌≤◌, Bool, true, false, IsTrue, List, [], ◌∷◌, ◌++◌, length, refl, sym, ap, subst, ◌∙◌, arith, Option, None, ◌⊎◌, inl, inr, ltb}
 use Rattle.std.proofs.lemmas.Bool.Decides.{Decides-ltb}
 use Rattle.rack_outside.specs.Link.{Seen}
-use Rattle.rack_outside.specs.Told.{Rose, counted}
+use Rattle.rack_outside.specs.Told.{Rose}
 use Rattle.rack_outside.specs.declared.link.LinkRead.{LinkRead}
 use Rattle.rack_outside.specs.declared.link.LinkRead.TheVariants as read
 use Rattle.rack_outside.proofs.CallerLemmas.{rose_within}
@@ -27,13 +27,15 @@ use Rattle.conn_core.specs.declared.state.Next.{Next}
 use Rattle.conn_core.specs.declared.state.Next.TheVariants as next
 use Rattle.conn_core.specs.declared.state.State.{State}
 use Rattle.conn_core.specs.declared.state.State.TheVariants as state
-use Rattle.conn_core.specs.Answers.{TurnedSo, FlushedSo, FedSo}
-use Rattle.conn_core.specs.Calls.{TurnEnds, RestsBehind, IsSpent, TurnTells, Turns, FlushTells, Flushes, IsOfFlush, FeedTells, Feeds}
-use Rattle.conn_core.specs.Inner.{IsFed, ReadLeaves, ReadsBy, Starts, TellsBy, writes_of, SaysOn, SaidLeaves, Says, Steps, IsSpentLeft, StepLeaves}
+use Rattle.conn_core.specs.Answers.{TurnedSo, FlushedSo}
+use Rattle.conn_core.specs.Calls.{TurnEnds, RestsBehind, IsSpent, TurnTells, Turns, FlushTells, Flushes, IsOfFlush}
+use Rattle.conn_core.specs.Inner.{IsFed, ReadLeaves, ReadsBy, TellsBy, writes_of, SaysOn, SaidLeaves, Says, Steps, IsSpentLeft, StepLeaves}
+use Rattle.conn_core.specs.Moves.{Starts}
 use Rattle.conn_core.specs.Place.{IsSaying, state_at}
 use Rattle.conn_core.specs.Rests.{RestsAt}
 use Rattle.conn_core.specs.Shown.{Shown, Moved, replied_at, why_at}
 use Rattle.conn_core.proofs.ShownLemmas.{counted_sum}
+use Rattle.conn_core.proofs.MovingLemmas.{full, TurnMade, FlushMade}
 use Rattle.conn_core.proofs.MovedLemmas.{counted_lists, moved_same, moved_by, moved_then, ends_then}
 
 -- a place that isn't Over names no why
@@ -230,9 +232,6 @@ pub record Turning (old new : Shown) (s s' : Seen) (l : Left) : Type 0 where
   pub rests : RestsBehind new.state old.replied new.replied
   pub ends : TurnEnds new.why s s'
 
-abbrev pub full : Left
-full = record { runs = 10; reads = 160; writes = 160; came = 0 }
-
 -- its first part
 pub turning_start : (o n : Shown) (s : Seen) (f l : Left) → f ≡ full → Starts (f.runs - l.runs) o n → l ≡ record f { runs = l.runs }
     → l.runs ≤ f.runs → Turning o n s s l
@@ -334,8 +333,9 @@ module _ {B H : Type 0} (a : At B H) (o n : Shown) (s u : Seen) (l : Left) (more
   turn_tells next.Over f = is ∙ f
 
   -- and its end
-  pub turning_end : (result : Next) → TurnedSo result a l more → Turns result o n s u
-  turning_end result f =
+  pub turning_end : (result : Next) → TurnedSo result a l more → TurnMade o n s u (10 - l.runs) (160 - l.reads) (160 - l.writes)
+      → Turns result o n s u
+  turning_end result f made =
       let runs : 10 - l.runs ≤ 10 = omega arith in
       let reads : 160 - l.reads ≤ 160 = omega arith in
       let writes : 160 - l.writes ≤ 160 = omega arith in
@@ -345,6 +345,10 @@ module _ {B H : Type 0} (a : At B H) (o n : Shown) (s u : Seen) (l : Left) (more
         reads = 160 - l.reads;
         writes = 160 - l.writes;
         few = (runs, reads, writes);
+        moves = made.moves;
+        waited = made.waited;
+        made = made.made;
+        stops = made.stops;
         moved = h.moved;
         calls = calls;
         rests = h.rests;
@@ -444,10 +448,14 @@ module _ {B H : Type 0} (a : At B H) (o n : Shown) (s u : Seen) (w : ℕ) (h : F
   flush_tells next.Over f = is ∙ f
 
   -- and its end
-  pub flushing_end : (result : Next) → FlushedSo result a w → Flushes result o n s u
-  flushing_end result f = record {
+  pub flushing_end : (result : Next) → FlushedSo result a w → FlushMade o n s u w → Flushes result o n s u
+  flushing_end result f made = record {
     writes = w;
     few = h.few;
+    moves = made.moves;
+    waited = made.waited;
+    made = made.made;
+    stops = made.stops;
     moved = h.moved;
     came = h.came;
     given = h.given;
@@ -457,36 +465,6 @@ module _ {B H : Type 0} (a : At B H) (o n : Shown) (s u : Seen) (w : ℕ) (h : F
     why = h.why;
     ends = h.ends;
     tells = flush_tells result f;
-  }
-
--- what a read that gave bytes leaves
-reads_on : (b : State) → IsFed b → b ≢ state.Over → b ≢ state.Ready → b ≡ state.Reading
-reads_on state.Reading fed live more = refl
-reads_on state.Ready fed live more = absurd (more refl)
-reads_on state.Answering fed live more = absurd fed
-reads_on state.Hijacked fed live more = absurd fed
-reads_on state.Over fed live more = absurd (live refl)
-
-module _ {B H : Type 0} (a : At B H) (k : ℕ) (o n : Shown) (s u : Seen) (h : ReadsBy (read.Bytes k) o n s u) (is : n.state ≡ state_at a) where
-  feed_tells : (result : Next) → FedSo result a → FeedTells result n h.moved.came s u
-  feed_tells next.Waiting f = absurd f
-  feed_tells next.More f =
-      let some : 0 < length h.moved.came = omega (arith, h.leaves.0, h.leaves.1) in
-      (reads_on n.state h.leaves.2 (λ e. f.0 (sym is ∙ e)) (λ e. f.1 (sym is ∙ e)), some)
-  feed_tells next.Ready f = is ∙ f
-  feed_tells next.TurnOver f = absurd f
-  feed_tells next.Over f = is ∙ f
-
-  -- and its end
-  pub feeding_end : (result : Next) → FedSo result a → Feeds result o n s u
-  feeding_end result f = record {
-    moved = h.moved;
-    calls = h.calls;
-    replied = h.replied;
-    sent = h.sent;
-    why = h.why;
-    ends = h.ends;
-    tells = feed_tells result f;
   }
 
 -- the same replies, where the answers are the same

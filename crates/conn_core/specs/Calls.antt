@@ -1,28 +1,16 @@
 -- What the calls of a connection answer, and when each why may come.
-use Rattle.std.specs.Prelude.{◌≡◌, ◌≢◌, ℕ, ◌+◌, ◌<◌, ◌≤◌, Bool, true, List, [], length, Option, None, Some, ◌⊎◌, ⊤}
-use Rattle.rack_types.specs.declared.peer.Local.{Local}
-use Rattle.rack_types.specs.Body.{Content}
-use Rattle.rack_types.specs.Env.{Pairs}
-use Rattle.rack_types.specs.Request.{Parts}
-use Rattle.rack_types.specs.declared.answer.Answer.{Answer}
-use Rattle.rack_env.specs.Environment.{env_pairs}
+use Rattle.std.specs.Prelude.{◌≡◌, ◌≢◌, ℕ, ◌+◌, ◌<◌, ◌≤◌, Bool, false, List, [], length, Option, None, Some, ◌⊎◌, ⊤}
 use Rattle.rack_outside.specs.Link.{Seen, marked}
 use Rattle.rack_outside.specs.Told.{Rose}
 use Rattle.rack_outside.specs.declared.link.LinkRead.{LinkRead}
-use Rattle.rack_outside.specs.declared.link.LinkRead.TheVariants as read
 use Rattle.talk_core.specs.declared.ended.Why.{Why}
 use Rattle.talk_core.specs.declared.ended.Why.TheVariants as why
-use Rattle.talk_core.specs.Teller.{Stack, Teller, reply_of, is_last}
-use Rattle.conn_core.specs.declared.left.Said.{Said}
-use Rattle.conn_core.specs.declared.left.Said.TheVariants as said
-use Rattle.conn_core.specs.declared.left.Left.{Left}
-use Rattle.conn_core.specs.declared.left.Step.{Step}
-use Rattle.conn_core.specs.declared.left.Step.TheVariants as step
 use Rattle.conn_core.specs.declared.state.Next.{Next}
 use Rattle.conn_core.specs.declared.state.Next.TheVariants as next
 use Rattle.conn_core.specs.declared.state.State.{State}
 use Rattle.conn_core.specs.declared.state.State.TheVariants as state
 use Rattle.conn_core.specs.Shown.{Shown, Moved}
+use Rattle.conn_core.specs.Moves.{size_of, ReadsOnce, Move, Goes, turn_at, TurnStops, flush_at, FlushStops}
 
 -- why a turn may end a connection, by what became of its link: that a read told the peer's end, or that a failure
 -- was counted. Whether the peer ended changes only with the first of them
@@ -63,9 +51,12 @@ FeedTells next.Ready new came s s' = new.state ≡ state.Ready
 FeedTells next.TurnOver new came s s' = ⊥
 FeedTells next.Over new came s s' = new.state ≡ state.Over
 
--- a `feed`: one read
+-- a `feed`: one read, which answered so, and gave the bytes that came
 pub record Feeds (result : Next) (old new : Shown) (s s' : Seen) : Type 0 where
+  pub answer : LinkRead
+  pub once : ReadsOnce answer old new s s'
   pub moved : Moved old new s s' 1 0
+  pub came_is : length moved.came ≡ size_of answer
   pub calls : new.calls ≡ old.calls
   pub replied : new.replied ≡ old.replied
   pub sent : s'.sent ≡ s.sent
@@ -99,12 +90,16 @@ RestsBehind state.Answering before replied = before ≤ replied
 RestsBehind state.Hijacked before replied = ⊥
 RestsBehind state.Over before replied = ⊤
 
--- a turn: at most 10 runs, 160 reads and 160 writes
+-- a turn: at most 10 runs, 160 reads and 160 writes, made by these moves, behind which it stops
 pub record Turns (result : Next) (old new : Shown) (s s' : Seen) : Type 0 where
   pub runs : ℕ
   pub reads : ℕ
   pub writes : ℕ
   pub few : (runs ≤ 10) × (reads ≤ 160) × (writes ≤ 160)
+  pub moves : List Move
+  pub waited : Bool
+  pub made : Goes moves (turn_at old s 0 0 0 false) (turn_at new s' runs reads writes waited)
+  pub stops : TurnStops (turn_at new s' runs reads writes waited)
   pub moved : Moved old new s s' reads writes
   pub calls : new.calls ≡ old.calls + runs
   pub rests : RestsBehind new.state old.replied new.replied
@@ -119,10 +114,15 @@ FlushTells next.Ready writes new s s' = (new.state ≡ state.Ready) × (writes �
 FlushTells next.TurnOver writes new s s' = (new.state ≢ state.Over) × (writes ≡ 16)
 FlushTells next.Over writes new s s' = new.state ≡ state.Over
 
--- a `flush`: at most 16 writes, each of which took bytes but a last one that had to wait
+-- a `flush`: at most 16 writes, each of which took bytes but a last one that had to wait, made by these moves, behind
+-- which it stops
 pub record Flushes (result : Next) (old new : Shown) (s s' : Seen) : Type 0 where
   pub writes : ℕ
   pub few : writes ≤ 16
+  pub moves : List Move
+  pub waited : Bool
+  pub made : Goes moves (flush_at old s 0 false) (flush_at new s' writes waited)
+  pub stops : FlushStops (flush_at new s' writes waited)
   pub moved : Moved old new s s' 0 writes
   pub came : moved.came ≡ []
   pub given : s'.given ≡ s.given

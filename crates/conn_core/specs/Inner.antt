@@ -1,15 +1,14 @@
 -- What the steps of a connection leave of what it shows. This serves inner contracts alone.
-use Rattle.std.specs.Prelude.{◌≡◌, ◌≢◌, ℕ, ◌+◌, ◌-◌, ◌*◌, ◌<◌, ◌≤◌, Bool, true, false, List, [], length, Option, None, Some, ◌⊎◌, ⊤}
-use Rattle.rack_types.specs.declared.answer.Answer.{Answer}
+use Rattle.std.specs.Prelude.{◌≡◌, ℕ, ◌+◌, ◌-◌, ◌*◌, ◌<◌, ◌≤◌, Bool, true, false, List, [], length, None, Some, ◌⊎◌, ⊤}
 use Rattle.rack_types.specs.declared.peer.Local.{Local}
-use Rattle.rack_types.specs.Body.{Content}
-use Rattle.rack_types.specs.Env.{Pairs}
 use Rattle.rack_types.specs.Request.{Parts}
 use Rattle.rack_env.specs.Environment.{env_pairs}
 use Rattle.rack_outside.specs.Link.{Seen}
 use Rattle.rack_outside.specs.Told.{Rose}
 use Rattle.rack_outside.specs.declared.link.LinkRead.{LinkRead}
 use Rattle.rack_outside.specs.declared.link.LinkRead.TheVariants as read
+use Rattle.rack_outside.specs.declared.link.LinkWrite.{LinkWrite}
+use Rattle.rack_outside.specs.declared.link.LinkWrite.TheVariants as write
 use Rattle.talk_core.specs.Counts.{counted_by}
 use Rattle.talk_core.specs.declared.ended.Why.TheVariants as why
 use Rattle.talk_core.specs.Teller.{Stack, Teller, reply_of, is_last}
@@ -24,7 +23,8 @@ use Rattle.conn_core.specs.declared.state.State.{State}
 use Rattle.conn_core.specs.declared.state.State.TheVariants as state
 use Rattle.conn_core.specs.Place.{state_at}
 use Rattle.conn_core.specs.Shown.{Shown, Moved}
-use Rattle.conn_core.specs.Calls.{TurnEnds, IsOfFeed, IsOfFlush, IsSpent, RestsBehind}
+use Rattle.conn_core.specs.Calls.{TurnEnds, IsOfFeed, IsOfFlush, RestsBehind}
+use Rattle.conn_core.specs.Moves.{ring_room, SameShown, Starts, NamesFault, WantsMemory, write_waits, WritesOnce, OwesRightly, Move, Moment, Makes, TurnStops}
 
 -- behind bytes that were fed the connection reads on, is ready, or wanted memory
 abbrev pub IsFed : State → Type 0
@@ -49,20 +49,6 @@ pub record ReadsBy (result : LinkRead) (old new : Shown) (s s' : Seen) : Type 0 
   pub why : IsOfFeed new.why
   pub ends : TurnEnds new.why s s'
   pub leaves : ReadLeaves result new moved.came s s'
-
--- the peer, the local side, the lives and the bytes taken are as before
-pub record SameShown (old new : Shown) : Type 0 where
-  pub peer : new.peer ≡ old.peer
-  pub local : new.local ≡ old.local
-  pub lives : new.lives ≡ old.lives
-  pub taken : new.taken ≡ old.taken
-
--- how a request or a refusal was taken up, by so many runs: a reply is under way, or memory was refused
-pub record Starts (runs : ℕ) (old new : Shown) : Type 0 where
-  pub same : SameShown old new
-  pub calls : new.calls ≡ old.calls + runs
-  pub place : ((new.state ≡ state.Answering) × (new.why ≡ None) × (new.replied ≡ old.replied))
-      ⊎ ((new.state ≡ state.Over) × (new.why ≡ Some why.NoMemory))
 
 -- the run of a request was made, or memory was refused before it
 abbrev pub runs_of : Bool → ℕ
@@ -146,12 +132,43 @@ FillsShown true old new =
 FillsShown false old new =
     SameShown old new × (new.calls ≡ old.calls) × (new.state ≡ state.Over) × (new.why ≡ Some why.NoMemory)
 
--- bytes are in the ring, and where a framer has the rest of the reply, more come
+-- bytes are in the ring; and where a framer has the rest of the reply, the ring is full and more come
 abbrev pub IsFilledAt : {B H : Type 0} → At B H → List ℕ → Type 0
 IsFilledAt {B} {H} at.Reading ring = ⊥
 IsFilledAt {B} {H} at.Asked ring = ⊥
 IsFilledAt {B} {H} (at.Refused f) ring = ⊥
-IsFilledAt {B} {H} (at.Answering f) ring = (0 < length ring) × (0 < length f.rest.bytes)
+IsFilledAt {B} {H} (at.Answering f) ring = (length ring ≡ ring_room) × (0 < length f.rest.bytes)
 IsFilledAt {B} {H} (at.Writing keeps) ring = 0 < length ring
 IsFilledAt {B} {H} at.Refusing ring = 0 < length ring
 IsFilledAt {B} {H} (at.Over ended) ring = ⊥
+
+-- how a request or a refusal was taken up, by the runs that it took
+abbrev pub TakesUp : ℕ → Shown → Shown → Type 0
+TakesUp runs old new = ((runs ≡ 1) × Starts 1 old new) ⊎ ((runs ≡ 0) × (NamesFault old new ⊎ WantsMemory old new))
+
+-- how a step that says went: memory was refused, or it was one write
+abbrev pub SaysOnce : Said → Shown → Shown → Seen → Seen → Type 0
+SaysOnce said.Unwritten old new s s' = (s' ≡ s) × WantsMemory old new
+SaysOnce said.Wrote old new s s' = (answer : LinkWrite) × (write_waits answer ≡ false) × WritesOnce answer old new s s'
+SaysOnce said.Waits old new s s' = WritesOnce write.NotYet old new s s'
+
+-- the moment of a turn of which this is left
+abbrev pub left_at : Shown → Seen → Left → Bool → Moment
+left_at shown seen left waited = record {
+  shown = shown;
+  seen = seen;
+  runs = left.runs;
+  reads = left.reads;
+  writes = left.writes;
+  waited = waited;
+}
+
+-- a move that was made, and what it leaves is owed rightly
+abbrev pub MadeTo : Moment → Moment → Type 0
+MadeTo m n = (move : Move) × Makes move m n × OwesRightly n.shown
+
+-- how a step went: one move, in which the link had to wait or not; or nothing changed, and the turn stops
+abbrev pub StepMoves : Step → Shown → Shown → Seen → Seen → Left → Left → Type 0
+StepMoves step.GoesOn old new s s' l l' = MadeTo (left_at old s l false) (left_at new s' l' false)
+StepMoves step.Waits old new s s' l l' = MadeTo (left_at old s l false) (left_at new s' l' true)
+StepMoves step.Stops old new s s' l l' = (new ≡ old) × (s' ≡ s) × (l' ≡ l) × TurnStops (left_at new s' l' false)

@@ -4,6 +4,7 @@ pub mod Steps
 pub mod Plain
 pub mod Holds
 pub mod Shown
+pub mod Moves
 pub mod Calls
 pub mod Inner
 pub mod Answers

@@ -4,7 +4,6 @@ use Rattle.rack_types.specs.declared.peer.Local.{Local}
 use Rattle.rack_types.specs.declared.body.Body.{Ghosts}
 use Rattle.message_framing.specs.Intake.{Fed}
 use Rattle.talk_core.specs.declared.ended.Ended.{Ended}
-use Rattle.talk_core.specs.declared.ended.Life.{Life}
 use Rattle.talk_core.specs.declared.ended.Why.TheVariants as why
 use Rattle.conn_core.specs.declared.inside.Inside.{Inside}
 use Rattle.conn_core.specs.declared.place.At.TheVariants as at

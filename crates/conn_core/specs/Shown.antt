@@ -14,9 +14,9 @@ use Rattle.conn_core.specs.declared.place.At.TheVariants as at
 use Rattle.conn_core.specs.declared.state.State.{State}
 use Rattle.conn_core.specs.Place.{state_at}
 
--- what a connection shows: the peer, the local side and its lives; how many requests were run, and to how many of
--- them the reply was sent whole; how many bytes were read, up to 2^64 - 1; the bytes that are owed; its state; and,
--- where that is Over, why
+-- what a connection shows: the peer, the local side and its lives; how many requests were run, and, while it isn't
+-- Over, to how many of them the reply was sent whole (where it is Over, that number is `calls` and says nothing); how
+-- many bytes were read, up to 2^64 - 1; the bytes that are owed; its state; and, where that is Over, why
 pub record Shown : Type 0 where
   pub peer : List ℕ
   pub local : Local
@@ -28,7 +28,7 @@ pub record Shown : Type 0 where
   pub state : State
   pub why : Option Why
 
--- how many replies to requests were sent whole at this place, behind so many runs
+-- how many replies to requests were sent whole at this place, behind so many runs, while the connection isn't over
 abbrev pub replied_at : {B H : Type 0} → At B H → ℕ → ℕ
 replied_at {B} {H} at.Reading calls = calls
 replied_at {B} {H} at.Asked calls = calls

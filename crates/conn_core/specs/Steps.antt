@@ -1,5 +1,5 @@
 -- What the steps of a connection do to the parts that they change. This serves inner contracts alone.
-use Rattle.std.specs.Prelude.{◌≡◌, ◌≢◌, ◌↔◌, ◌<◌, ℕ, Bool, true, false, IsTrue, List, [], ◌++◌, length, drop, Option, None, Some, Result, Ok, Err, ⊤}
+use Rattle.std.specs.Prelude.{◌≡◌, ◌≢◌, ◌↔◌, ◌<◌, ℕ, Bool, true, false, IsTrue, List, [], ◌++◌, length, drop, Ok, Err, ⊤}
 use Rattle.std.specs.declared.alloc.AllocError.{AllocError}
 use Rattle.circular_buffer.specs.Buffer.{Buffer}
 use Rattle.rack_types.specs.declared.answer.Answer.{Answer}
@@ -46,6 +46,13 @@ Sends (write.Took n) before after old new = TookFront before after old new
 Sends write.NotYet before after old new = (after ≡ before) × (new.sent ≡ old.sent) × Rose old.waits new.waits
 Sends write.Failed before after old new = (after ≡ before) × (new.sent ≡ old.sent) × Rose old.failed_writes new.failed_writes
 Sends write.NoMemory before after old new = (after ≡ before) × (new.sent ≡ old.sent)
+
+-- what a write of all bytes of the ring leaves of them
+abbrev pub SendsOff : LinkWrite → List ℕ → List ℕ → Type 0
+SendsOff (write.Took n) before after = after ≡ drop n before
+SendsOff write.NotYet before after = after ≡ before
+SendsOff write.Failed before after = after ≡ before
+SendsOff write.NoMemory before after = after ≡ before
 
 -- the bytes held were fed, and this place is behind them
 abbrev pub FeedsHeld : {B H : Type 0} → Intake → List ℕ → Intake → List ℕ → At B H → Type 0

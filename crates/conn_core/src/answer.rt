@@ -8,7 +8,8 @@ ghost use Rattle.reply_framing.specs.Hands.{HandsToNobody};
 ghost use Rattle.talk_core.specs.Tail.{Voice};
 ghost use Rattle.talk_core.specs.Teller.{Teller, reply_of, is_last};
 ghost use Rattle.conn_core.specs.Holds.{HoldsBy};
-ghost use Rattle.conn_core.specs.Inner.{Starts, runs_of, TellsBy, work};
+ghost use Rattle.conn_core.specs.Inner.{runs_of, TellsBy, TakesUp, work};
+ghost use Rattle.conn_core.specs.Moves.{Starts, NamesFault};
 ghost use Rattle.conn_core.specs.Place.{state_at};
 ghost use Rattle.conn_core.specs.Runs.{RunsBy};
 ghost use Rattle.conn_core.specs.Shown.{shows};
@@ -60,6 +61,7 @@ impl<B: Body, H: Drop> Inside<B, H> {
         requires { self.old.at ≡ At.Refused fault }
         ensures holds { (V : Voice H) (T : Teller H) (s : Seen) → HoldsBy V T s self.old → HoldsBy V T s self.new }
         ensures starts { Starts 0 (shows self.old) (shows self.new) }
+        ensures names { NamesFault (shows self.old) (shows self.new) }
     {
         put_fault(fault, &mut self.ring);
         put(&mut self.at, At::Refusing);
@@ -75,6 +77,7 @@ impl<B: Body, H: Drop> Inside<B, H> {
             → HoldsBy V T s self.old → HoldsBy V T s self.new }
         ensures any { (V : Voice H) (T : Teller H) (s : Seen) → HoldsBy V T s self.old → RunsBy V T self.old.calls s self.new }
         ensures starts { Starts (left.old.runs - left.new.runs) (shows self.old) (shows self.new) }
+        ensures takes { TakesUp (left.old.runs - left.new.runs) (shows self.old) (shows self.new) }
         ensures left { left.new ≡ record left.old { runs = left.new.runs } }
         ensures few { left.new.runs ≤ left.old.runs }
         ensures falls { work left.new self.new.at < work left.old self.old.at }

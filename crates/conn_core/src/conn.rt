@@ -132,11 +132,12 @@ impl<L: Link, B: Body, H: Hijack + Drop> Conn<L, B, H> {
 
     /// Makes one read, which offers room for 16,384 bytes, and feeds what came to the reader of requests.
     ///
-    /// It takes memory only for a request's body. `now` is the moment, in milliseconds.
+    /// Where memory is refused for what came, the connection is over. `now` is the moment, in milliseconds.
     pub fn feed(&mut self, now: u64) -> Next
         requires reading { (shown self.old).state ≡ State.Reading }
         ensures number { number_of self.new ≡ number_of self.old }
         ensures feeds { Feeds result (shown self.old) (shown self.new) (L.seen (link_of self.old)) (L.seen (link_of self.new)) }
+        ensures any { (V : Voice H) (T : Teller H) → HoldsWith L.seen V T self.old → HoldsWith L.seen V T self.new }
         ensures holds { (S : Stacks H) → Holds L.seen (record { says = H.says; ends = H.ends }) S self.old → Holds L.seen (record { says = H.says; ends = H.ends }) S self.new }
     {
         let _now = now;
@@ -147,8 +148,12 @@ impl<L: Link, B: Body, H: Hijack + Drop> Conn<L, B, H> {
     /// Answers requests one behind the other: each is run once, its reply is framed into the ring and
     /// written, and the bytes that are held are fed before any are read.
     ///
+    /// What stands is taken up before anything is read, and what is owed is written before anything is taken
+    /// up. A read offers room for 16,384 bytes, and a write the front of what is owed, up to 65,536 bytes.
+    ///
     /// It makes at most 10 runs, 160 reads and 160 writes. Behind its tenth run it still writes that run's
-    /// reply; behind its 160th read or write it makes no further one.
+    /// reply; behind its 160th read or write it makes no further move, nor behind a read or a write that had
+    /// to wait. It stops only there, or where the connection is over, as where memory is refused.
     ///
     /// Whatever the runner answers, each run belongs to the next request. Where it is steady, the
     /// connection goes on standing for its talk over the runner's answers.
@@ -174,10 +179,14 @@ impl<L: Link, B: Body, H: Hijack + Drop> Conn<L, B, H> {
 
     /// Fills the ring from the reply that is under way and writes all of it, at most 16 times. Where the
     /// link took all of the reply and the connection goes on, the bytes that are held are fed.
+    ///
+    /// It stops only where the link had to wait, where nothing is owed, or behind its 16th write. Where memory
+    /// is refused the connection is over. `now` is the moment, in milliseconds.
     pub fn flush(&mut self, now: u64) -> Next
         requires owes { (shown self.old).state ≡ State.Answering }
         ensures number { number_of self.new ≡ number_of self.old }
         ensures flushes { Flushes result (shown self.old) (shown self.new) (L.seen (link_of self.old)) (L.seen (link_of self.new)) }
+        ensures any { (V : Voice H) (T : Teller H) → HoldsWith L.seen V T self.old → HoldsWith L.seen V T self.new }
         ensures holds { (S : Stacks H) → Holds L.seen (record { says = H.says; ends = H.ends }) S self.old → Holds L.seen (record { says = H.says; ends = H.ends }) S self.new }
     {
         let _now = now;

@@ -1,6 +1,7 @@
 // What was read of a link and not fed yet.
 ghost use Rattle.std.specs.Prelude.{◌≡◌, [], drop, IfOk};
 ghost use Rattle.rack_outside.specs.Link.{IsOneRead};
+ghost use Rattle.conn_core.specs.Moves.{OffersRoom};
 ghost use Rattle.conn_core.specs.Steps.{ReadsInto};
 
 use rack_outside::{Link, LinkRead};
@@ -45,6 +46,7 @@ impl Held {
     pub(crate) fn read<L: Link>(&mut self, link: &mut L) -> LinkRead
         ensures keeps { IsOneRead (L.seen link.old) (L.seen link.new) }
         ensures reads { ReadsInto result self.new (L.seen link.old) (L.seen link.new) }
+        ensures offers { OffersRoom result (L.seen link.old) (L.seen link.new) }
     {
         if self.piece.len() < PIECE {
             self.piece.resize(PIECE, 0).unwrap();

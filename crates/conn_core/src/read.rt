@@ -5,6 +5,7 @@ ghost use Rattle.talk_core.specs.Teller.{Teller};
 ghost use Rattle.conn_core.specs.Calls.{Feeds};
 ghost use Rattle.conn_core.specs.Holds.{HoldsBy};
 ghost use Rattle.conn_core.specs.Inner.{ReadsBy};
+ghost use Rattle.conn_core.specs.Moves.{ReadsOnce};
 ghost use Rattle.conn_core.specs.Shown.{shows};
 
 use crate::answers::fed;
@@ -22,6 +23,7 @@ impl<B: Body, H: Drop> Inside<B, H> {
         requires { self.old.at ≡ At.Reading }
         ensures holds { (V : Voice H) (T : Teller H) → HoldsBy V T (L.seen link.old) self.old → HoldsBy V T (L.seen link.new) self.new }
         ensures reads { ReadsBy result (shows self.old) (shows self.new) (L.seen link.old) (L.seen link.new) }
+        ensures once { ReadsOnce result (shows self.old) (shows self.new) (L.seen link.old) (L.seen link.new) }
     {
         let read = self.held.read(link);
         match read {

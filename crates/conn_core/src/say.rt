@@ -5,7 +5,7 @@ ghost use Rattle.talk_core.specs.Tail.{Voice};
 ghost use Rattle.talk_core.specs.Teller.{Teller};
 ghost use Rattle.conn_core.specs.Calls.{Flushes};
 ghost use Rattle.conn_core.specs.Holds.{HoldsBy};
-ghost use Rattle.conn_core.specs.Inner.{Says, FillsShown, IsFilledAt};
+ghost use Rattle.conn_core.specs.Inner.{Says, SaysOnce, FillsShown, IsFilledAt};
 ghost use Rattle.conn_core.specs.Place.{IsSaying};
 ghost use Rattle.conn_core.specs.Shown.{shows};
 
@@ -40,6 +40,7 @@ impl<B: Body, H: Drop> Inside<B, H> {
         requires { IsFilledAt self.old.at self.old.ring.items }
         ensures holds { (V : Voice H) (T : Teller H) → HoldsBy V T (L.seen link.old) self.old → HoldsBy V T (L.seen link.new) self.new }
         ensures says { Says result (shows self.old) (shows self.new) (L.seen link.old) (L.seen link.new) }
+        ensures once { SaysOnce result (shows self.old) (shows self.new) (L.seen link.old) (L.seen link.new) }
     {
         match send(link, &mut self.ring) {
             LinkWrite::Took(_) => {
@@ -69,6 +70,7 @@ impl<B: Body, H: Drop> Inside<B, H> {
         requires { IsSaying self.old.at }
         ensures holds { (V : Voice H) (T : Teller H) → HoldsBy V T (L.seen link.old) self.old → HoldsBy V T (L.seen link.new) self.new }
         ensures says { Says result (shows self.old) (shows self.new) (L.seen link.old) (L.seen link.new) }
+        ensures once { SaysOnce result (shows self.old) (shows self.new) (L.seen link.old) (L.seen link.new) }
     {
         if self.fill() {
             self.write(link)

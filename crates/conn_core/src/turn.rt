@@ -6,7 +6,7 @@ ghost use Rattle.talk_core.specs.Tail.{Voice};
 ghost use Rattle.talk_core.specs.Teller.{Teller};
 ghost use Rattle.conn_core.specs.Calls.{Turns};
 ghost use Rattle.conn_core.specs.Holds.{HoldsBy};
-ghost use Rattle.conn_core.specs.Inner.{TellsBy, Steps, StepLeaves};
+ghost use Rattle.conn_core.specs.Inner.{TellsBy, Steps, StepLeaves, StepMoves};
 ghost use Rattle.conn_core.specs.Place.{state_at as place_as};
 ghost use Rattle.conn_core.specs.Runs.{RunsBy};
 ghost use Rattle.conn_core.specs.Shown.{shows};
@@ -33,6 +33,7 @@ impl<B: Body, H: Drop> Inside<B, H> {
             → HoldsBy V T (L.seen link.old) self.old → HoldsBy V T (L.seen link.new) self.new }
         ensures any { (V : Voice H) (T : Teller H) → HoldsBy V T (L.seen link.old) self.old → RunsBy V T self.old.calls (L.seen link.new) self.new }
         ensures steps { Steps (shows self.old) (shows self.new) (L.seen link.old) (L.seen link.new) left.old left.new }
+        ensures moves { StepMoves result (shows self.old) (shows self.new) (L.seen link.old) (L.seen link.new) left.old left.new }
         ensures leaves { StepLeaves result left.old left.new self.old.at self.new.at (L.seen link.old) (L.seen link.new) }
         ensures counts { R.runs runner.new + left.new.runs ≡ R.runs runner.old + left.old.runs }
         ensures steady { R.steady ≡ true → (ps : Pairs) (input : List ℕ) → R.answer runner.new ps input ≡ R.answer runner.old ps input }

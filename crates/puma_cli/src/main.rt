@@ -2,6 +2,7 @@
 // the proved top call, and its answer as a line on standard error and an exit status.
 #![tactic(auto)]
 
+mod help;
 mod read_source;
 mod real_files;
 #[cfg(test)]
@@ -9,6 +10,7 @@ mod temporary;
 mod words;
 mod write_sink;
 
+use help::{answer, asked};
 use puma_top::{FileWhy, Status, run_quiet};
 use read_source::ReadSource;
 use real_files::RealFiles;
@@ -19,24 +21,27 @@ use write_sink::WriteSink;
 
 fn main(rt: HostRuntime) -> ExitCode {
     let status = match words::behind_name(&rt) {
-        Ok(words) => {
-            let mut files = RealFiles::new(&rt);
-            let mut source = ReadSource::new(rt.stdin());
-            let mut sink = WriteSink::new(rt.stdout());
-            run_quiet(
-                rt.alloc(),
-                words.as_slice(),
-                &mut files,
-                &mut source,
-                &mut sink,
-            )
-        }
+        Ok(words) => run(&rt, words.as_slice()),
         Err(e) if e.kind() == ErrorKind::OutOfMemory => Status::NoMemory,
         Err(_) => Status::Usage,
     };
     // Where standard error takes nothing either, the exit status alone tells.
     let _ = report(&rt, &status);
     ExitCode::from(status.code())
+}
+
+/// Answers what the words ask of the program itself, or else runs the command that they say.
+fn run(rt: &HostRuntime, words: &[String]) -> Status {
+    if let Some(asked) = asked(words) {
+        return match answer(asked, &mut rt.stdout()) {
+            Ok(()) => Status::Done,
+            Err(_) => Status::SinkFault,
+        };
+    }
+    let mut files = RealFiles::new(rt);
+    let mut source = ReadSource::new(rt.stdin());
+    let mut sink = WriteSink::new(rt.stdout());
+    run_quiet(rt.alloc(), words, &mut files, &mut source, &mut sink)
 }
 
 /// One line on standard error for each answer but Done.

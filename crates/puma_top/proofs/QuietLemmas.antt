@@ -1,36 +1,84 @@
 -- What follows of a command from what its parts did.
-use Rattle.std.proofs.Common.{◌≡◌, ℕ, ◌+◌, ◌<◌, ◌≤◌, ◌⊎◌, inl, inr, List, [], ◌∷◌, ◌++◌, length, Option, None, Some, Ok, ap, sym, ◌∙◌, refl, subst, arith, length-append}
+use Rattle.std.proofs.Common.{◌≡◌, ◌≢◌, ℕ, ◌+◌, ◌<◌, ◌≤◌, ◌⊎◌, inl, inr, Bool, List, [], ◌∷◌, ◌++◌, length, Option, None, Some, Ok, Err, ap, sym, ◌∙◌, refl, subst, arith, length-append}
 use Rattle.std.proofs.lemmas.List.{append_cancel_left}
 use Rattle.rack_outside.specs.declared.files.FileRead.{FileRead}
 use Rattle.rack_outside.specs.declared.files.FileRead.TheVariants as read
-use Rattle.rack_outside.specs.Told.{appended}
+use Rattle.rack_outside.specs.Told.{Rose, appended}
 use Rattle.rack_outside.specs.Files.{Shelf, Answers, AnswersFrom}
 use Rattle.rack_outside.specs.Source.{IsPrefix}
-use Rattle.puma_top.specs.Seen.{FileReads, FilesSeen, Seen}
-use Rattle.puma_top.specs.Words.{Command}
 use Rattle.stock_apps.specs.declared.app.App.{App}
-use Rattle.puma_top.specs.Stack.{stack_limit, IsStack, IsNoStack}
+use Rattle.builder_core.specs.Plan.{Plan}
+use Rattle.builder_core.specs.Tree.{Tree}
+use Rattle.puma_words.specs.Words.{Command, once, check}
+use Rattle.stack_file.specs.Reads.{IsStack, IsBadAt}
+use Rattle.stack_file.specs.Canon.{canonical}
+use Rattle.puma_top.specs.Stack.{stack_limit}
+use Rattle.puma_top.specs.Seen.{FileReads, FilesSeen, SinkSeen, Seen}
 use Rattle.puma_top.specs.OnceSteps.{Serves}
-use Rattle.puma_top.specs.Status.{UnlessNoMemory, OnUsage}
-use Rattle.puma_top.specs.Quiet.{ReadStack, IsGoodStack, IsReady, NoFault, Ran}
-use Rattle.puma_top.specs.QuietSteps.{Did}
+use Rattle.puma_top.specs.Status.{UnlessNoMemory}
+use Rattle.puma_top.specs.Quiet.{ReadOnce, NotRead, IsBadStack, IsGoodStack, HasRead, OnceDid, CheckDid, Did, file_of, IsReady, NoFault, Ran}
+use Rattle.puma_top.specs.QuietSteps.{OpensSteps, Prints}
+use Rattle.puma_top.specs.declared.status.FileWhy.{FileWhy}
 use Rattle.puma_top.specs.declared.status.FileWhy.TheVariants as why
 use Rattle.puma_top.specs.declared.status.Status.{Status}
 use Rattle.puma_top.specs.declared.status.Status.TheVariants as status
+use Rattle.puma_top.proofs.StackLemmas.{reads_no_rule, one_rule}
 
 -- a connection that was served by a stack
-pub served : (s : Status) (command : Option Command) (app : App) (old new : Seen) → IsGoodStack command app old.files new.files
-    → Serves s app old.source old.sink new.source new.sink → Did s command old new
-served status.Done command app old new stack h = record { app = app; stack = stack; served = h }
-served status.NoMemory command app old new stack (inl h) = ((stack.was.name, stack.was.named), inl h)
-served status.NoMemory command app old new stack (inr h) =
-    ((stack.was.name, stack.was.named), inr (record { app = app; stack = stack; served = h }))
-served status.Usage command app old new stack h = absurd h
-served (status.File y) command app old new stack h = absurd h
-served (status.Stack line rule) command app old new stack h = absurd h
-served status.SourceFault command app old new stack h = record { app = app; stack = stack; rose = h.0; served = h.1 }
-served status.SinkFault command app old new stack h = record { app = app; stack = stack; rose = h.0; served = h.1 }
-served status.TooLong command app old new stack h = record { app = app; stack = stack; served = h }
+pub once_served : (s : Status) (hijack : Bool) (name : List ℕ) (stack : Tree App) (old new : Seen) → IsGoodStack name stack old.files new.files
+    → Serves s (record { stack = stack; hijack = hijack }) old.source old.sink new.source new.sink → OnceDid s hijack name old new
+once_served status.Done hijack name stack old new good h = record { stack = stack; good = good; served = h }
+once_served status.NoMemory hijack name stack old new good (inl h) = inl h
+once_served status.NoMemory hijack name stack old new good (inr h) = inr (record { stack = stack; good = good; served = h })
+once_served status.Usage hijack name stack old new good h = absurd h
+once_served (status.File y) hijack name stack old new good h = absurd h
+once_served (status.Stack line rule) hijack name stack old new good h = absurd h
+once_served status.SourceFault hijack name stack old new good h = record { stack = stack; good = good; rose = h.0; served = h.1 }
+once_served status.SinkFault hijack name stack old new good h = record { stack = stack; good = good; rose = h.0; served = h.1 }
+once_served status.TooLong hijack name stack old new good h = record { stack = stack; good = good; served = h }
+
+-- one that was not begun
+pub once_unbegun : (s : Status) (hijack : Bool) (name : List ℕ) (old new : Seen) → OpensSteps (Err s) name old.files new.files
+    → new.sink.written ≡ old.sink.written → OnceDid s hijack name old new
+once_unbegun status.Done hijack name old new h same = absurd h
+once_unbegun status.NoMemory hijack name old new h same = inl same
+once_unbegun status.Usage hijack name old new h same = absurd h
+once_unbegun (status.File y) hijack name old new h same = h
+once_unbegun (status.Stack line rule) hijack name old new h same = h
+once_unbegun status.SourceFault hijack name old new h same = absurd h
+once_unbegun status.SinkFault hijack name old new h same = absurd h
+once_unbegun status.TooLong hijack name old new h same = absurd h
+
+-- steps that were read and printed
+pub check_printed : (s : Status) (name : List ℕ) (steps : Plan App) (old new : FilesSeen) (sink then : SinkSeen) → HasRead name steps old new
+    → Prints s (canonical steps) sink then → CheckDid s name old new sink then
+check_printed status.Done name steps old new sink then h p = record { steps = steps; read = h; printed = p }
+check_printed status.NoMemory name steps old new sink then h p =
+    inr (record { steps = steps; read = h; front = p.front; more = p.more; begins = p.begins; printed = p.wrote })
+check_printed status.Usage name steps old new sink then h p = absurd p
+check_printed (status.File y) name steps old new sink then h p = absurd p
+check_printed (status.Stack line rule) name steps old new sink then h p = absurd p
+check_printed status.SourceFault name steps old new sink then h p = absurd p
+check_printed status.SinkFault name steps old new sink then h p = (
+  p.0,
+  record {
+    part = record { steps = steps; read = h; front = p.1.0.front; more = p.1.0.more; begins = p.1.0.begins; printed = p.1.0.wrote };
+    less = p.1.1;
+  },
+)
+check_printed status.TooLong name steps old new sink then h p = absurd p
+
+-- and those that weren't read
+pub check_unread : (s : Status) (name : List ℕ) (old new : FilesSeen) (sink then : SinkSeen) → OpensSteps (Err s) name old new
+    → then.written ≡ sink.written → CheckDid s name old new sink then
+check_unread status.Done name old new sink then h same = absurd h
+check_unread status.NoMemory name old new sink then h same = inl same
+check_unread status.Usage name old new sink then h same = absurd h
+check_unread (status.File y) name old new sink then h same = h
+check_unread (status.Stack line rule) name old new sink then h same = h
+check_unread status.SourceFault name old new sink then h same = absurd h
+check_unread status.SinkFault name old new sink then h same = absurd h
+check_unread status.TooLong name old new sink then h same = absurd h
 
 -- the last read that was noted, told twice
 one_note : (noted notes : Option FileReads) (before : FileReads) (x y : List ℕ × FileRead) → noted ≡ Some before → notes ≡ appended noted (x ∷ [])
@@ -44,138 +92,159 @@ one_note noted notes before x y old adds new =
 same_text : (t u : List ℕ) → read.Text t ≡ read.Text u → t ≡ u
 same_text t u same = cc
 
+-- the files' last note is of this text
+pub record Noted (old new : FilesSeen) (name text : List ℕ) : Type 0 where
+  pub before : FileReads
+  pub was : old.texts ≡ Some before
+  pub is : new.texts ≡ Some (before ++ ((name, read.Text text) ∷ []))
+
 -- the answer that was noted is the one that the command's file gave
-noted_answer : (command : Option Command) (answer : FileRead) (old new : FilesSeen) (name text : List ℕ) (before : FileReads)
-    → ReadStack command answer old new → old.texts ≡ Some before → new.texts ≡ Some (before ++ ((name, read.Text text) ∷ [])) → answer ≡ read.Text text
-noted_answer command answer old new name text before was is then =
-    ap (λ (p : List ℕ × FileRead). p.1) (one_note old.texts new.texts before (was.name, answer) (name, read.Text text) is was.was.noting then)
+noted_answer : (file : List ℕ) (answer : FileRead) (old new : FilesSeen) (name text : List ℕ) → ReadOnce file answer old new
+    → Noted old new name text → answer ≡ read.Text text
+noted_answer file answer old new name text was noted =
+    ap (λ (p : List ℕ × FileRead). p.1) (one_note old.texts new.texts noted.before (file, answer) (name, read.Text text) noted.was was.noting noted.is)
 
--- no text is a stack and none
-stack_and_none : (text : List ℕ) (app : App) → IsStack text app → IsNoStack text → ⊥
-stack_and_none text app is none = let both : Some app ≡ None = sym is ∙ none in cc
+noted_text : (file read_text : List ℕ) (old new : FilesSeen) (name text : List ℕ) → ReadOnce file (read.Text read_text) old new
+    → Noted old new name text → read_text ≡ text
+noted_text file read_text old new name text was noted = same_text read_text text (noted_answer file (read.Text read_text) old new name text was noted)
 
-no_stack_here : (command : Option Command) (app : App) (old new : FilesSeen) (name text : List ℕ) (before : FileReads)
-    → IsGoodStack command app old new → old.texts ≡ Some before → new.texts ≡ Some (before ++ ((name, read.Text text) ∷ [])) → IsNoStack text → ⊥
-no_stack_here command app old new name text before stack is then bad =
-    let same : stack.text ≡ text = same_text stack.text text (noted_answer command (read.Text stack.text) old new name text before stack.was is then) in
-    stack_and_none text app (subst (λ (w : List ℕ). IsStack w app) same stack.good) bad
+module _ (old new : FilesSeen) (name text : List ℕ) (line rule : ℕ) (noted : Noted old new name text) (bad : IsBadAt text line rule) where
+  no_steps : (file : List ℕ) (steps : Plan App) → HasRead file steps old new → ⊥
+  no_steps file steps h =
+      reads_no_rule text steps line rule
+      (subst (λ (t : List ℕ). IsStack t steps) (noted_text file h.text old new name text h.was noted) h.reads) bad
 
-nothing_noted : (noted notes : Option FileReads) (before : FileReads) (x : List ℕ × FileRead) → notes ≡ noted → noted ≡ Some before → notes ≡ Some (before ++ (x ∷ [])) → ⊥
-nothing_noted noted notes before x same old new =
-    let both : Some before ≡ Some (before ++ (x ∷ [])) = sym old ∙ sym same ∙ new in
-    let lists : before ≡ before ++ (x ∷ []) = cc in
-    let size : length before ≡ length before + 1 = ap length lists ∙ length-append before (x ∷ []) in
+  no_stack : (file : List ℕ) (stack : Tree App) → IsGoodStack file stack old new → ⊥
+  no_stack file stack h = no_steps file h.good.steps (record { text = h.text; was = h.was; reads = h.good.reads })
+
+  by_rule : (file : List ℕ) (l r : ℕ) → IsBadStack file l r old new → status.Stack l r ≡ status.Stack line rule
+  by_rule file l r h =
+      let other : IsBadAt text l r = subst (λ (t : List ℕ). IsBadAt t l r) (noted_text file h.text old new name text h.was noted) h.bad in
+      let same = one_rule text l r line rule other bad in
+      ap (λ n. status.Stack n r) same.0 ∙ ap (λ n. status.Stack line n) same.1
+
+  not_read : (file : List ℕ) (w : FileWhy) → NotRead w file old new → ⊥
+  not_read file why.Absent h = let clash : read.Absent ≡ read.Text text = noted_answer file read.Absent old new name text h noted in cc
+  not_read file why.Long h = let clash : read.Long ≡ read.Text text = noted_answer file read.Long old new name text h noted in cc
+  not_read file why.Failed h = let clash : read.Failed ≡ read.Text text = noted_answer file read.Failed old new name text h.0 noted in cc
+
+nothing_noted : (old new : FilesSeen) (name text : List ℕ) → new.texts ≡ old.texts → Noted old new name text → ⊥
+nothing_noted old new name text same noted =
+    let both : Some noted.before ≡ Some (noted.before ++ ((name, read.Text text) ∷ [])) = sym noted.was ∙ sym same ∙ noted.is in
+    let lists : noted.before ≡ noted.before ++ ((name, read.Text text) ∷ []) = cc in
+    let size : length noted.before ≡ length noted.before + 1 = ap length lists ∙ length-append noted.before ((name, read.Text text) ∷ []) in
     omega (arith, size)
 
--- a text that is no stack is answered by its rule
-bad_stack : (s : Status) (command : Option Command) (old new : Seen) → Did s command old new → OnUsage s (new.files.texts ≡ old.files.texts)
-    → (name text : List ℕ) (before : FileReads) → old.files.texts ≡ Some before
-    → new.files.texts ≡ Some (before ++ ((name, read.Text text) ∷ [])) → IsNoStack text → UnlessNoMemory s (s ≡ status.Stack 1 0)
-bad_stack status.Done command old new did same name text before is then bad =
-    absurd (no_stack_here command did.app old.files new.files name text before did.stack is then bad)
-bad_stack status.NoMemory command old new did same name text before is then bad = tt
-bad_stack status.Usage command old new did same name text before is then bad =
-    absurd (nothing_noted old.files.texts new.files.texts before (name, read.Text text) same is then)
-bad_stack (status.File why.Absent) command old new did same name text before is then bad =
-    let clash : read.Absent ≡ read.Text text = noted_answer command read.Absent old.files new.files name text before did is then in
-    absurd (cc)
-bad_stack (status.File why.Long) command old new did same name text before is then bad =
-    let clash : read.Long ≡ read.Text text = noted_answer command read.Long old.files new.files name text before did is then in
-    absurd (cc)
-bad_stack (status.File why.Failed) command old new did same name text before is then bad =
-    let clash : read.Failed ≡ read.Text text = noted_answer command read.Failed old.files new.files name text before did.0 is then in
-    absurd (cc)
-bad_stack (status.Stack line rule) command old new did same name text before is then bad =
-    ap (λ n. status.Stack n rule) did.0 ∙ ap (λ n. status.Stack 1 n) did.1
-bad_stack status.SourceFault command old new did same name text before is then bad =
-    absurd (no_stack_here command did.app old.files new.files name text before did.stack is then bad)
-bad_stack status.SinkFault command old new did same name text before is then bad =
-    absurd (no_stack_here command did.app old.files new.files name text before did.stack is then bad)
-bad_stack status.TooLong command old new did same name text before is then bad =
-    absurd (no_stack_here command did.app old.files new.files name text before did.stack is then bad)
+-- a text that breaks a rule is answered by it
+once_bad : (s : Status) (hijack : Bool) (file : List ℕ) (old new : Seen) → OnceDid s hijack file old new → (name text : List ℕ) (line rule : ℕ)
+    → Noted old.files new.files name text → IsBadAt text line rule → UnlessNoMemory s (s ≡ status.Stack line rule)
+once_bad status.Done hijack file old new did name text line rule noted bad =
+    absurd (no_stack old.files new.files name text line rule noted bad file did.stack did.good)
+once_bad status.NoMemory hijack file old new did name text line rule noted bad = tt
+once_bad status.Usage hijack file old new did name text line rule noted bad = absurd did
+once_bad (status.File y) hijack file old new did name text line rule noted bad =
+    absurd (not_read old.files new.files name text line rule noted bad file y did)
+once_bad (status.Stack l r) hijack file old new did name text line rule noted bad =
+    by_rule old.files new.files name text line rule noted bad file l r did
+once_bad status.SourceFault hijack file old new did name text line rule noted bad =
+    absurd (no_stack old.files new.files name text line rule noted bad file did.stack did.good)
+once_bad status.SinkFault hijack file old new did name text line rule noted bad =
+    absurd (no_stack old.files new.files name text line rule noted bad file did.stack did.good)
+once_bad status.TooLong hijack file old new did name text line rule noted bad =
+    absurd (no_stack old.files new.files name text line rule noted bad file did.stack did.good)
 
--- words that are no command are Usage
-no_command : (s : Status) (command : Option Command) (old new : Seen) → Did s command old new → command ≡ None → s ≡ status.Usage
-no_command status.Done command old new did none = let named = did.stack.was.named in absurd (cc)
-no_command status.NoMemory command old new did none = let named = did.0.1 in absurd (cc)
-no_command status.Usage command old new did none = refl
-no_command (status.File why.Absent) command old new did none = let named = did.named in absurd (cc)
-no_command (status.File why.Long) command old new did none = let named = did.named in absurd (cc)
-no_command (status.File why.Failed) command old new did none = let named = did.0.named in absurd (cc)
-no_command (status.Stack line rule) command old new did none = let named = did.2.was.named in absurd (cc)
-no_command status.SourceFault command old new did none = let named = did.stack.was.named in absurd (cc)
-no_command status.SinkFault command old new did none = let named = did.stack.was.named in absurd (cc)
-no_command status.TooLong command old new did none = let named = did.stack.was.named in absurd (cc)
+check_bad : (s : Status) (file : List ℕ) (old new : FilesSeen) (sink then : SinkSeen) → CheckDid s file old new sink then → (name text : List ℕ) (line rule : ℕ)
+    → Noted old new name text → IsBadAt text line rule → UnlessNoMemory s (s ≡ status.Stack line rule)
+check_bad status.Done file old new sink then did name text line rule noted bad =
+    absurd (no_steps old new name text line rule noted bad file did.steps did.read)
+check_bad status.NoMemory file old new sink then did name text line rule noted bad = tt
+check_bad status.Usage file old new sink then did name text line rule noted bad = absurd did
+check_bad (status.File y) file old new sink then did name text line rule noted bad = absurd (not_read old new name text line rule noted bad file y did)
+check_bad (status.Stack l r) file old new sink then did name text line rule noted bad = by_rule old new name text line rule noted bad file l r did
+check_bad status.SourceFault file old new sink then did name text line rule noted bad = absurd did
+check_bad status.SinkFault file old new sink then did name text line rule noted bad =
+    absurd (no_steps old new name text line rule noted bad file did.1.part.steps did.1.part.read)
+check_bad status.TooLong file old new sink then did name text line rule noted bad = absurd did
 
--- the answer of the file that the command names comes of its next text
-next_answer : (command : Option Command) (answer : FileRead) (old new : FilesSeen) (ready : IsReady command old) → ReadStack command answer old new
+bad_stack : (s : Status) (command : Option Command) (old new : Seen) → Did s command old new → (command ≡ None → new.files.texts ≡ old.files.texts)
+    → (name text : List ℕ) (line rule : ℕ) → Noted old.files new.files name text → IsBadAt text line rule → UnlessNoMemory s (s ≡ status.Stack line rule)
+bad_stack s None old new did same name text line rule noted bad =
+    absurd (nothing_noted old.files new.files name text (same refl) noted)
+bad_stack s (Some (once hijack file)) old new did same name text line rule noted bad =
+    once_bad s hijack file old new did name text line rule noted bad
+bad_stack s (Some (check file)) old new did same name text line rule noted bad =
+    check_bad s file old.files new.files old.sink new.sink did.0 name text line rule noted bad
+
+-- the answer of the file comes of its next text
+next_answer : (file : List ℕ) (answer : FileRead) (old new : FilesSeen) (ready : IsReady file old) → ReadOnce file answer old new
     → AnswersFrom answer stack_limit (ready.text ∷ ready.more)
-next_answer command answer old new ready was =
-    let named = was.named in
-    let ready_named = ready.named in
-    let names : was.name ≡ ready.name = cc in
-    let texts : ready.shelf was.name ≡ ready.text ∷ ready.more = ap ready.shelf names ∙ ready.next in
-    let told : Answers (Ok answer) was.name stack_limit (Some ready.shelf) new.holds =
-    subst (λ (h : Option Shelf). Answers (Ok answer) was.name stack_limit h new.holds) ready.tells was.was.answers in
-    subst (λ (t : List (List ℕ)). AnswersFrom answer stack_limit t) texts told.0
+next_answer file answer old new ready was =
+    let told : Answers (Ok answer) file stack_limit (Some ready.shelf) new.holds =
+    subst (λ (h : Option Shelf). Answers (Ok answer) file stack_limit h new.holds) ready.tells was.answers in
+    subst (λ (t : List (List ℕ)). AnswersFrom answer stack_limit t) ready.next told.0
 
 first_of : (t u : List ℕ) (ts us : List (List ℕ)) → t ∷ ts ≡ u ∷ us → t ≡ u
 first_of t u ts us same = cc
 
--- with good words and a good stack the command is done, unless a count of faults rose or too many bytes came
-complete : (s : Status) (command : Option Command) (old new : Seen) → Did s command old new → IsReady command old.files → NoFault old new
-    → UnlessNoMemory s ((s ≡ status.Done) ⊎ (s ≡ status.TooLong))
-complete status.Done command old new did ready calm = inl refl
-complete status.NoMemory command old new did ready calm = tt
-complete status.Usage command old new did ready calm = let named = ready.named in absurd (cc)
-complete (status.File why.Absent) command old new did ready calm =
-    let none : ready.text ∷ ready.more ≡ [] = next_answer command read.Absent old.files new.files ready did in
-    absurd (cc)
-complete (status.File why.Long) command old new did ready calm =
-    let long = next_answer command read.Long old.files new.files ready did in
-    let same : ready.text ≡ long.0 = first_of ready.text long.0 ready.more long.1 long.2 in
-    let fits : length ready.text ≤ stack_limit = ready.fits in
-    let above : stack_limit < length long.0 = long.3 in
-    absurd (omega (arith, ap length same, fits, above))
-complete (status.File why.Failed) command old new did ready calm = absurd (calm.files did.1)
-complete (status.Stack line rule) command old new did ready calm =
-    let text = next_answer command (read.Text did.2.text) old.files new.files ready did.2.was in
-    let same : ready.text ≡ did.2.text = first_of ready.text did.2.text ready.more text.1 text.2 in
-    absurd (stack_and_none did.2.text ready.app (subst (λ (w : List ℕ). IsStack w ready.app) same ready.good) did.2.bad)
-complete status.SourceFault command old new did ready calm = absurd (calm.source did.rose)
-complete status.SinkFault command old new did ready calm = absurd (calm.sink did.rose)
-complete status.TooLong command old new did ready calm = inr refl
+module _ (file : List ℕ) (old new : FilesSeen) (ready : IsReady file old) where
+  is_read : (w : FileWhy) → NotRead w file old new → ¬ (Rose old.faults new.faults) → ⊥
+  is_read why.Absent h calm =
+      let none : ready.text ∷ ready.more ≡ [] = next_answer file read.Absent old new ready h in
+      cc
+  is_read why.Long h calm =
+      let long = next_answer file read.Long old new ready h in
+      let same : ready.text ≡ long.0 = first_of ready.text long.0 ready.more long.1 long.2 in
+      let fits : length ready.text ≤ stack_limit = ready.fits in
+      let above : stack_limit < length long.0 = long.3 in
+      omega (arith, ap length same, fits, above)
+  is_read why.Failed h calm = calm h.1
 
-at : (s t : Status) (command : Option Command) (old new : Seen) → Did s command old new → s ≡ t → Did t command old new
-at s t command old new did is = subst (λ (x : Status). Did x command old new) is did
+  is_good : (line rule : ℕ) → IsBadStack file line rule old new → ⊥
+  is_good line rule h =
+      let text = next_answer file (read.Text h.text) old new ready h.was in
+      let same : ready.text ≡ h.text = first_of ready.text h.text ready.more text.1 text.2 in
+      ready.good line rule (subst (λ (t : List ℕ). IsBadAt t line rule) (sym same) h.bad)
+
+-- with good words and a good stack the command is done, unless a count of faults rose or too many bytes came
+once_complete : (s : Status) (hijack : Bool) (file : List ℕ) (old new : Seen) → OnceDid s hijack file old new → IsReady file old.files → NoFault old new
+    → UnlessNoMemory s ((s ≡ status.Done) ⊎ (s ≡ status.TooLong))
+once_complete status.Done hijack file old new did ready calm = inl refl
+once_complete status.NoMemory hijack file old new did ready calm = tt
+once_complete status.Usage hijack file old new did ready calm = absurd did
+once_complete (status.File y) hijack file old new did ready calm = absurd (is_read file old.files new.files ready y did calm.files)
+once_complete (status.Stack line rule) hijack file old new did ready calm = absurd (is_good file old.files new.files ready line rule did)
+once_complete status.SourceFault hijack file old new did ready calm = absurd (calm.source did.rose)
+once_complete status.SinkFault hijack file old new did ready calm = absurd (calm.sink did.rose)
+once_complete status.TooLong hijack file old new did ready calm = inr refl
+
+check_complete : (s : Status) (file : List ℕ) (old new : Seen) → CheckDid s file old.files new.files old.sink new.sink → IsReady file old.files → NoFault old new
+    → UnlessNoMemory s ((s ≡ status.Done) ⊎ (s ≡ status.TooLong))
+check_complete status.Done file old new did ready calm = inl refl
+check_complete status.NoMemory file old new did ready calm = tt
+check_complete status.Usage file old new did ready calm = absurd did
+check_complete (status.File y) file old new did ready calm = absurd (is_read file old.files new.files ready y did calm.files)
+check_complete (status.Stack line rule) file old new did ready calm = absurd (is_good file old.files new.files ready line rule did)
+check_complete status.SourceFault file old new did ready calm = absurd did
+check_complete status.SinkFault file old new did ready calm = absurd (calm.sink did.0)
+check_complete status.TooLong file old new did ready calm = inr refl
+
+complete : (s : Status) (command : Option Command) (old new : Seen) → Did s command old new → (which : Command) → command ≡ Some which
+    → IsReady (file_of which) old.files → NoFault old new → UnlessNoMemory s ((s ≡ status.Done) ⊎ (s ≡ status.TooLong))
+complete s command old new did (once hijack file) is ready calm =
+    once_complete s hijack file old new (subst (λ (c : Option Command). Did s c old new) is did) ready calm
+complete s command old new did (check file) is ready calm =
+    check_complete s file old new (subst (λ (c : Option Command). Did s c old new) is did).0 ready calm
 
 -- a command that did this ran so
-pub ran : (s : Status) (command : Option Command) (old new : Seen) → Did s command old new → OnUsage s (new.files.texts ≡ old.files.texts)
+pub ran : (s : Status) (command : Option Command) (old new : Seen) → Did s command old new → (command ≡ None → new.files.texts ≡ old.files.texts)
     → new.source.input ≡ old.source.input
     → (IsPrefix old.source.given old.source.input → IsPrefix new.source.given new.source.input)
     → Ran command s old new
 ran s command old new did untouched same prefix = record {
-  usage = (λ is. at s status.Usage command old new did is, λ none. no_command s command old new did none);
-  done = λ is. at s status.Done command old new did is;
-  file = λ y is. at s (status.File y) command old new did is;
-  stack = λ line rule is. at s (status.Stack line rule) command old new did is;
-  bad_stack = bad_stack s command old new did untouched;
-  source_fault = λ is. at s status.SourceFault command old new did is;
-  sink_fault = λ is. at s status.SinkFault command old new did is;
-  no_memory = λ is. (at s status.NoMemory command old new did is).1;
-  too_long = λ is. at s status.TooLong command old new did is;
+  did = did;
+  bad_stack = λ name text line rule before was is bad.
+      bad_stack s command old new did untouched name text line rule (record { before = before; was = was; is = is }) bad;
   complete = complete s command old new did;
   same = same;
   prefix = prefix;
 }
-
--- a fact that follows from another, where the words are no command
-pub on_usage : (P Q : Type 0) (s : Status) → (P → Q) → OnUsage s P → OnUsage s Q
-on_usage P Q status.Done then h = tt
-on_usage P Q status.NoMemory then h = tt
-on_usage P Q status.Usage then h = then h
-on_usage P Q (status.File y) then h = tt
-on_usage P Q (status.Stack line rule) then h = tt
-on_usage P Q status.SourceFault then h = tt
-on_usage P Q status.SinkFault then h = tt
-on_usage P Q status.TooLong then h = tt

@@ -11,7 +11,6 @@ use Rattle.rack_outside.specs.Told.{Rose, appended}
 use Rattle.message_framing.proofs.CallerLemmas.{refusal_stays}
 use Rattle.hijack_core.specs.declared.never.Never.{Never}
 use Rattle.reply_framing.specs.declared.types.After.TheVariants.{Hijack}
-use Rattle.reply_framing.specs.Hands.{HandsToNobody}
 use Rattle.reply_framing.proofs.CallerLemmas.{reply_keeps_hold}
 use Rattle.talk_core.specs.Counts.{counted_by}
 use Rattle.talk_core.specs.declared.ended.Life.{Life}
@@ -29,31 +28,17 @@ use Rattle.conn_core.specs.Plain.{LacksPlainly}
 use Rattle.conn_core.specs.Opened.{opened}
 use Rattle.conn_core.specs.Shown.{Shown, Moved}
 use Rattle.conn_core.proofs.CallerLemmas.{taken_by, EndsAt, PartAt}
-use Rattle.stock_apps.specs.declared.app.App.{App}
-use Rattle.stock_apps.specs.declared.app.App.TheVariants.{Text, Echo, Env, Pieces, Stream, Cookies, Bad, Raise, Late}
-use Rattle.stock_apps.specs.Answers.{app_answer}
-use Rattle.puma_top.specs.Once.{once_peer, once_local, stacks_of, once_lives, teller_of, AnsweredAll, AnsweredInPart, AnsweredLess, most_taken, Told, ServedAll, ServedGiven, ServedPart, ServedLess, ServedLong}
+use Rattle.puma_top.specs.Once.{Site, once_peer, once_local, stacks_of, once_lives, teller_of, AnsweredAll, AnsweredInPart, AnsweredLess, most_taken, Told, ServedAll, ServedGiven, ServedPart, ServedLess, ServedLong}
 use Rattle.puma_top.specs.Drive.{Drives}
 use Rattle.puma_top.specs.OnceSteps.{Serves, IsOfOnce, status_by, source_of, sink_of}
 use Rattle.puma_top.specs.Seen.{SourceSeen, SinkSeen}
 use Rattle.puma_top.specs.declared.status.Status.{Status}
+use Rattle.puma_top.proofs.HandsLemmas.{stack_hands_to_nobody}
 
--- no endpoint hands a connection over
-pub hands_to_nobody : (app : App) (pairs : Pairs) (input : List ℕ) → HandsToNobody (app_answer {H = Never} app pairs input)
-hands_to_nobody (Text status kind body) pairs input = tt
-hands_to_nobody Echo pairs input = tt
-hands_to_nobody Env pairs input = tt
-hands_to_nobody (Pieces status pieces) pairs input = tt
-hands_to_nobody (Stream pieces) pairs input = tt
-hands_to_nobody (Cookies values) pairs input = tt
-hands_to_nobody (Bad numbers) pairs input = tt
-hands_to_nobody (Raise said) pairs input = tt
-hands_to_nobody (Late promised pieces raises) pairs input = tt
-
-held_by : (app : App) (k : ℕ) (r : Parts) → (teller_of app k r).after ≢ Hijack
-held_by app k r =
-    reply_keeps_hold (ask_of r) (env_pairs r once_peer once_local) (app_answer app (env_pairs r once_peer once_local) r.body) (is_last None k)
-    (hands_to_nobody app (env_pairs r once_peer once_local) r.body)
+held_by : (site : Site) (k : ℕ) (r : Parts) → (teller_of site k r).after ≢ Hijack
+held_by site k r =
+    reply_keeps_hold (ask_of r) (env_pairs r once_peer (once_local site.hijack)) (stacks_of site 0 (env_pairs r once_peer (once_local site.hijack)) r.body) (is_last None k)
+    (stack_hands_to_nobody site.stack (env_pairs r once_peer (once_local site.hijack)) r.body)
 
 -- the source and the sink show what the link shows
 pub record AreOf (source : SourceSeen) (sink : SinkSeen) (s : Seen) : Type 0 where
@@ -70,25 +55,25 @@ told source sink s peer given sent over are h = record {
   written_is = subst (λ (o : Option (List ℕ)). Tells o sent) (sym are.written) h.sent_is;
 }
 
-module _ {H : Type 0} (S : Stacks H) (s : Seen) (V : Voice H) (calls : ℕ) where
+module _ {H : Type 0} (hijack : Bool) (S : Stacks H) (s : Seen) (V : Voice H) (calls : ℕ) where
   -- over the peer, the side and the life of once
-  pub ended_at_once : (w : Why) (peer : List ℕ) (lives : List Life) (local : Local) → peer ≡ once_peer → lives ≡ once_lives → local ≡ once_local
-      → EndsAt s peer V (tell S lives local peer None) calls w → EndsAt s once_peer V (tell S once_lives once_local once_peer None) calls w
+  pub ended_at_once : (w : Why) (peer : List ℕ) (lives : List Life) (local : Local) → peer ≡ once_peer → lives ≡ once_lives → local ≡ once_local hijack
+      → EndsAt s peer V (tell S lives local peer None) calls w → EndsAt s once_peer V (tell S once_lives (once_local hijack) once_peer None) calls w
   ended_at_once w peer lives local e f d h =
-      subst (λ (p : List ℕ). EndsAt s p V (tell S once_lives once_local p None) calls w) e
+      subst (λ (p : List ℕ). EndsAt s p V (tell S once_lives (once_local hijack) p None) calls w) e
       (subst (λ (l : Local). EndsAt s peer V (tell S once_lives l peer None) calls w) d
       (subst (λ (x : List Life). EndsAt s peer V (tell S x local peer None) calls w) f h))
 
-  pub part_at_once : (peer : List ℕ) (lives : List Life) (local : Local) → peer ≡ once_peer → lives ≡ once_lives → local ≡ once_local
-      → PartAt s peer V (tell S lives local peer None) calls → PartAt s once_peer V (tell S once_lives once_local once_peer None) calls
+  pub part_at_once : (peer : List ℕ) (lives : List Life) (local : Local) → peer ≡ once_peer → lives ≡ once_lives → local ≡ once_local hijack
+      → PartAt s peer V (tell S lives local peer None) calls → PartAt s once_peer V (tell S once_lives (once_local hijack) once_peer None) calls
   part_at_once peer lives local e f d h =
-      subst (λ (p : List ℕ). PartAt s p V (tell S once_lives once_local p None) calls) e
+      subst (λ (p : List ℕ). PartAt s p V (tell S once_lives (once_local hijack) p None) calls) e
       (subst (λ (l : Local). PartAt s peer V (tell S once_lives l peer None) calls) d
       (subst (λ (x : List Life). PartAt s peer V (tell S x local peer None) calls) f h))
 
 -- all was answered
-answered_of : (app : App) (p : Past) (stop : Stop) (rest : List ℕ) → SentWhole (teller_of app) p stop rest p.sent → AnsweredAll app p.given p.sent
-answered_of app p stop rest h = record { asked = h.asked; stop = stop; rest = rest; talk = h.talk; said = h.said_is }
+answered_of : (site : Site) (p : Past) (stop : Stop) (rest : List ℕ) → SentWhole (teller_of site) p stop rest p.sent → AnsweredAll site p.given p.sent
+answered_of site p stop rest h = record { asked = h.asked; stop = stop; rest = rest; talk = h.talk; said = h.said_is }
 
 -- a talk that stopped for good is that of more bytes
 closed_final : (stop : Stop) → IsClosed stop → IsFinal stop
@@ -97,13 +82,13 @@ closed_final (refused f) h = tt
 closed_final closed h = tt
 closed_final hijacked h = absurd h
 
-answered_more : (app : App) (p : Past) (stop : Stop) (rest more : List ℕ) → IsClosed stop → SentWhole (teller_of app) p stop rest p.sent
-    → AnsweredAll app (p.given ++ more) p.sent
-answered_more app p stop rest more final h = record {
+answered_more : (site : Site) (p : Past) (stop : Stop) (rest more : List ℕ) → IsClosed stop → SentWhole (teller_of site) p stop rest p.sent
+    → AnsweredAll site (p.given ++ more) p.sent
+answered_more site p stop rest more final h = record {
   asked = h.asked;
   stop = stop;
   rest = rest ++ more;
-  talk = stays (fates_of (teller_of app)) p.given more h.asked stop rest (closed_final stop final) h.talk;
+  talk = stays (fates_of (teller_of site)) p.given more h.asked stop rest (closed_final stop final) h.talk;
   said = h.said_is;
 }
 
@@ -175,30 +160,30 @@ given_is (Some xs) now came given start is tells =
     let here : now ≡ Some came = is ∙ ap (λ (z : List ℕ). Some (z ++ came)) start in
     inr (sym (subst (λ (o : Option (List ℕ)). Tells o given) here tells))
 
-module _ (app : App) (s : Seen) (V : Voice Never) (calls : ℕ) (source : SourceSeen) (sink : SinkSeen) (are : AreOf source sink s) where
+module _ (site : Site) (s : Seen) (V : Voice Never) (calls : ℕ) (source : SourceSeen) (sink : SinkSeen) (are : AreOf source sink s) where
   -- all of the input begins with what was given
   input_is : (given input : List ℕ) → IsFront s.given s.input → source.given ≡ Some given → source.input ≡ Some input
       → given ++ drop (length given) input ≡ input
   input_is given input front g i =
       ap (λ z. z ++ drop (length given) input) (sym (front given input (sym are.given ∙ g) (sym are.input ∙ i))) ∙ take-append-drop (length given) input
 
-  pub serves_closed : IsFront s.given s.input → EndsAt s once_peer V (teller_of app) calls why.Closed → ServedAll app source sink
+  pub serves_closed : IsFront s.given s.input → EndsAt s once_peer V (teller_of site) calls why.Closed → ServedAll site source sink
   serves_closed front h =
       let p : Past = past s calls h.given h.sent h.over in
       record {
         given = h.given;
         written = h.sent;
         told = told source sink s once_peer h.given h.sent h.over are h.shows;
-        answered = answered_of app p h.ends.0 h.ends.1 h.ends.3;
-        whole = λ input g i. subst (λ (z : List ℕ). AnsweredAll app z h.sent) (input_is h.given input front g i)
-            (answered_more app p h.ends.0 h.ends.1 (drop (length h.given) input) h.ends.2 h.ends.3);
+        answered = answered_of site p h.ends.0 h.ends.1 h.ends.3;
+        whole = λ input g i. subst (λ (z : List ℕ). AnsweredAll site z h.sent) (input_is h.given input front g i)
+            (answered_more site p h.ends.0 h.ends.1 (drop (length h.given) input) h.ends.2 h.ends.3);
       }
 
   pub serves_end : (s.over ≡ Some true → IsWhole s.given s.input) → (l : Bool) → s.over ≡ Some l
-      → EndsAt s once_peer V (teller_of app) calls why.PeerEnd → ServedAll app source sink
+      → EndsAt s once_peer V (teller_of site) calls why.PeerEnd → ServedAll site source sink
   serves_end whole l e h =
       let p : Past = past s calls h.given h.sent h.over in
-      let all : AnsweredAll app h.given h.sent = answered_of app p wanting h.ends.0 h.ends.1 in
+      let all : AnsweredAll site h.given h.sent = answered_of site p wanting h.ends.0 h.ends.1 in
       let is : l ≡ h.over = subst (λ (o : Option Bool). Tells o h.over) e h.shows.over_is in
       let over : s.over ≡ Some true = e ∙ ap Some (is ∙ h.ends.2) in
       record {
@@ -206,48 +191,48 @@ module _ (app : App) (s : Seen) (V : Voice Never) (calls : ℕ) (source : Source
         written = h.sent;
         told = told source sink s once_peer h.given h.sent h.over are h.shows;
         answered = all;
-        whole = λ input g i. subst (λ (z : List ℕ). AnsweredAll app z h.sent) (sym (whole over h.given input (sym are.given ∙ g) (sym are.input ∙ i))) all;
+        whole = λ input g i. subst (λ (z : List ℕ). AnsweredAll site z h.sent) (sym (whole over h.given input (sym are.given ∙ g) (sym are.input ∙ i))) all;
       }
 
-  pub serves_given : EndsAt s once_peer V (teller_of app) calls why.ReadFailed → ServedGiven app source sink
+  pub serves_given : EndsAt s once_peer V (teller_of site) calls why.ReadFailed → ServedGiven site source sink
   serves_given h =
       let p : Past = past s calls h.given h.sent h.over in
-      let all : AnsweredAll app h.given h.sent = elim h.ends.1 [
-        | inl x ↦ answered_of app p x.0 x.1 x.3
-        | inr x ↦ absurd (unhijacked V (teller_of app) h.over h.given h.sent x.partly.k x.word x.partly.rest x.lacks (held_by app x.partly.k) x.partly.stands x.taken)
+      let all : AnsweredAll site h.given h.sent = elim h.ends.1 [
+        | inl x ↦ answered_of site p x.0 x.1 x.3
+        | inr x ↦ absurd (unhijacked V (teller_of site) h.over h.given h.sent x.partly.k x.word x.partly.rest x.lacks (held_by site x.partly.k) x.partly.stands x.taken)
       ] in
       record { given = h.given; written = h.sent; told = told source sink s once_peer h.given h.sent h.over are h.shows; answered = all }
 
-  pub serves_less : EndsAt s once_peer V (teller_of app) calls why.WriteFailed → ServedLess app source sink
+  pub serves_less : EndsAt s once_peer V (teller_of site) calls why.WriteFailed → ServedLess site source sink
   serves_less h =
-      let x : LacksPlainly V (teller_of app) (past s calls h.given h.sent h.over) h.ends.1.0 = h.ends.1.1 in
+      let x : LacksPlainly V (teller_of site) (past s calls h.given h.sent h.over) h.ends.1.0 = h.ends.1.1 in
       record {
         given = h.given;
         written = h.sent;
         told = told source sink s once_peer h.given h.sent h.over are h.shows;
         begins = λ asked stop rest t.
-            begins_less V (teller_of app) h.over h.given h.sent calls None x.word h.ends.1.0 asked stop rest h.ends.1.2 x.partly x.plain t;
+            begins_less V (teller_of site) h.over h.given h.sent calls None x.word h.ends.1.0 asked stop rest h.ends.1.2 x.partly x.plain t;
       }
 
-  pub serves_part : EndsAt s once_peer V (teller_of app) calls why.NoMemory → ServedPart app source sink
+  pub serves_part : EndsAt s once_peer V (teller_of site) calls why.NoMemory → ServedPart site source sink
   serves_part h =
-      let x : LacksPlainly V (teller_of app) (past s calls h.given h.sent h.over) h.ends.0 = h.ends.1 in
+      let x : LacksPlainly V (teller_of site) (past s calls h.given h.sent h.over) h.ends.0 = h.ends.1 in
       record {
         given = h.given;
         written = h.sent;
         told = told source sink s once_peer h.given h.sent h.over are h.shows;
         begins = λ asked stop rest t.
-            begins_text V (teller_of app) h.over h.given h.sent calls None x.word h.ends.0 asked stop rest x.partly x.plain t;
+            begins_text V (teller_of site) h.over h.given h.sent calls None x.word h.ends.0 asked stop rest x.partly x.plain t;
       }
 
   pub serves_long : (o n : Shown) (s0 : Seen) (x y : ℕ) → o.taken ≡ 0 → Tells s0.given [] → Moved o n s0 s x y → most_taken ≤ n.taken
-      → PartAt s once_peer V (teller_of app) calls → ServedLong app source sink
+      → PartAt s once_peer V (teller_of site) calls → ServedLong site source sink
   serves_long o n s0 x y none start moved long h =
-      let T : Teller Never = teller_of app in
+      let T : Teller Never = teller_of site in
       let few : o.taken < 2 ^ 64 = omega (arith, none) in
       let taken : n.taken ≡ min (o.taken + length moved.came) (2 ^ 64 - 1) = moved.taken ∙ taken_by (length moved.came) o.taken few in
       let plain : IsPlain h.part.word = plain_word V T h.over h.given h.sent h.part.partly.k h.part.word h.part.partly.rest h.part.lacks
-      h.part.partly.stands (held_by app h.part.partly.k) h.part.timed in
+      h.part.partly.stands (held_by site h.part.partly.k) h.part.timed in
       elim (given_is s0.given s.given moved.came h.given start moved.given h.shows.given_is) [
         | inl untold ↦
             let more = many most_taken in
@@ -294,34 +279,34 @@ rose_of : (x y a b : ℕ) → a ≡ x → b ≡ y → Rose x y → Rose a b
 rose_of x y a b e f h = subst (λ (i : ℕ). Rose i b) (sym e) (subst (λ (j : ℕ). Rose x j) (sym f) h)
 
 -- and then the status tells how
-module _ (app : App) (before s : Seen) (V : Voice Never) (calls : ℕ) (old_source source : SourceSeen) (old_sink sink : SinkSeen)
+module _ (site : Site) (before s : Seen) (V : Voice Never) (calls : ℕ) (old_source source : SourceSeen) (old_sink sink : SinkSeen)
     (were : AreOf old_source old_sink before) (are : AreOf source sink s) (front : IsFront s.given s.input)
     (whole : s.over ≡ Some true → IsWhole s.given s.input) (l : Bool) (over : s.over ≡ Some l) where
-  pub serves_by : (w : Why) → TurnEnds (Some w) before s → EndsAt s once_peer V (teller_of app) calls w
-      → Serves (status_by w) app old_source old_sink source sink
-  serves_by why.Closed e h = serves_closed app s V calls source sink are front h
-  serves_by why.PeerEnd e h = serves_end app s V calls source sink are whole l over h
+  pub serves_by : (w : Why) → TurnEnds (Some w) before s → EndsAt s once_peer V (teller_of site) calls w
+      → Serves (status_by w) site old_source old_sink source sink
+  serves_by why.Closed e h = serves_closed site s V calls source sink are front h
+  serves_by why.PeerEnd e h = serves_end site s V calls source sink are whole l over h
   serves_by (why.Idle by) e h = absurd e
   serves_by (why.TimedOut since moment) e h = absurd e
   serves_by (why.Stalled since moment) e h = absurd e
   serves_by (why.Unread level) e h = absurd e
   serves_by why.ReadFailed e h =
-      (rose_of before.failed_reads s.failed_reads old_source.faults source.faults were.faults are.faults e.1, serves_given app s V calls source sink are h)
+      (rose_of before.failed_reads s.failed_reads old_source.faults source.faults were.faults are.faults e.1, serves_given site s V calls source sink are h)
   serves_by why.WriteFailed e h =
-      (rose_of before.failed_writes s.failed_writes old_sink.faults sink.faults were.unwritten are.unwritten e.1, serves_less app s V calls source sink are h)
+      (rose_of before.failed_writes s.failed_writes old_sink.faults sink.faults were.unwritten are.unwritten e.1, serves_less site s V calls source sink are h)
   serves_by (why.Halted level) e h = absurd e
-  serves_by why.NoMemory e h = inr (serves_part app s V calls source sink are h)
+  serves_by why.NoMemory e h = inr (serves_part site s V calls source sink are h)
   serves_by why.Hijacked e h = absurd e
 
 are_of : (s : Seen) → AreOf (source_of s) (sink_of s) s
 are_of s = record { input = refl; given = refl; faults = refl; written = refl; unwritten = refl }
 
 -- a connection that was driven from its start
-module _ (app : App) (V : Voice Never) (o n : Shown) (before s : Seen) (start : o ≡ opened once_peer once_local 0) (d : Drives o n before s) where
+module _ (site : Site) (V : Voice Never) (o n : Shown) (before s : Seen) (start : o ≡ opened once_peer (once_local site.hijack) 0) (d : Drives o n before s) where
   peer_is : n.peer ≡ once_peer
   peer_is = d.moved.peer ∙ ap (λ (x : Shown). x.peer) start
 
-  local_is : n.local ≡ once_local
+  local_is : n.local ≡ once_local site.hijack
   local_is = d.moved.local ∙ ap (λ (x : Shown). x.local) start
 
   lives_is : n.lives ≡ once_lives
@@ -329,46 +314,46 @@ module _ (app : App) (V : Voice Never) (o n : Shown) (before s : Seen) (start : 
 
   -- to its end
   pub talked : IsFront s.given s.input → (s.over ≡ Some true → IsWhole s.given s.input) → (l : Bool) → s.over ≡ Some l
-      → (w : Why) → n.why ≡ Some w → EndsAt s n.peer V (tell (stacks_of app) n.lives n.local n.peer None) n.calls w
-      → Serves (status_by w) app (source_of before) (sink_of before) (source_of s) (sink_of s)
+      → (w : Why) → n.why ≡ Some w → EndsAt s n.peer V (tell (stacks_of site) n.lives n.local n.peer None) n.calls w
+      → Serves (status_by w) site (source_of before) (sink_of before) (source_of s) (sink_of s)
   talked front whole l over w e h =
-      serves_by app before s V n.calls (source_of before) (source_of s) (sink_of before) (sink_of s) (are_of before) (are_of s) front whole l over w
+      serves_by site before s V n.calls (source_of before) (source_of s) (sink_of before) (sink_of s) (are_of before) (are_of s) front whole l over w
       (subst (λ (x : Option Why). TurnEnds x before s) e d.ends)
-      (ended_at_once (stacks_of app) s V n.calls w n.peer n.lives n.local peer_is lives_is local_is h)
+      (ended_at_once site.hijack (stacks_of site) s V n.calls w n.peer n.lives n.local peer_is lives_is local_is h)
 
   -- until it gave too many bytes
   pub talked_long : Tells before.given [] → most_taken ≤ n.taken
-      → PartAt s n.peer V (tell (stacks_of app) n.lives n.local n.peer None) n.calls → ServedLong app (source_of s) (sink_of s)
+      → PartAt s n.peer V (tell (stacks_of site) n.lives n.local n.peer None) n.calls → ServedLong site (source_of s) (sink_of s)
   talked_long none long h =
-      serves_long app s V n.calls (source_of s) (sink_of s) (are_of s) o n before d.reads d.writes (ap (λ (x : Shown). x.taken) start) none d.moved long
-      (part_at_once (stacks_of app) s V n.calls n.peer n.lives n.local peer_is lives_is local_is h)
+      serves_long site s V n.calls (source_of s) (sink_of s) (are_of s) o n before d.reads d.writes (ap (λ (x : Shown). x.taken) start) none d.moved long
+      (part_at_once site.hijack (stacks_of site) s V n.calls n.peer n.lives n.local peer_is lives_is local_is h)
 
 -- the start, over the parts that were made for it
-pub start_is : (x : Shown) (peer name : List ℕ) → peer ≡ once_peer → name ≡ codes "localhost"
-    → x ≡ opened peer (record { name = name; port = 9292; https = false; hijack = true }) 0 → x ≡ opened once_peer once_local 0
-start_is x peer name p n h =
-    h ∙ ap (λ (z : List ℕ). opened z (record { name = name; port = 9292; https = false; hijack = true }) 0) p
-    ∙ ap (λ (z : List ℕ). opened once_peer (record { name = z; port = 9292; https = false; hijack = true }) 0) n
+pub start_is : (hijack : Bool) (x : Shown) (peer name : List ℕ) → peer ≡ once_peer → name ≡ codes "localhost"
+    → x ≡ opened peer (record { name = name; port = 9292; https = false; hijack = hijack }) 0 → x ≡ opened once_peer (once_local hijack) 0
+start_is hijack x peer name p n h =
+    h ∙ ap (λ (z : List ℕ). opened z (record { name = name; port = 9292; https = false; hijack = hijack }) 0) p
+    ∙ ap (λ (z : List ℕ). opened once_peer (record { name = z; port = 9292; https = false; hijack = hijack }) 0) n
 
 -- the same for links: the first is handed in, and the last comes back
-module _ {L : Type 0} (seen : L → Seen) (app : App) (V : Voice Never) (o n : Shown) (first k m last : L)
-    (start : o ≡ opened once_peer once_local 0) (d : Drives o n (seen k) (seen m)) (from : k ≡ first) (to : last ≡ m) where
+module _ {L : Type 0} (seen : L → Seen) (site : Site) (V : Voice Never) (o n : Shown) (first k m last : L)
+    (start : o ≡ opened once_peer (once_local site.hijack) 0) (d : Drives o n (seen k) (seen m)) (from : k ≡ first) (to : last ≡ m) where
   pub talk_ends : ((l : L) → (over : Bool) × ((seen l).over ≡ Some over)) → ((l : L) → IsFront (seen l).given (seen l).input)
       → ((l : L) → (seen l).over ≡ Some true → IsWhole (seen l).given (seen l).input)
       → (result : Status) (w : Why) → result ≡ status_by w → n.why ≡ Some w
-      → EndsAt (seen m) n.peer V (tell (stacks_of app) n.lives n.local n.peer None) n.calls w
-      → Serves result app (source_of (seen first)) (sink_of (seen first)) (source_of (seen last)) (sink_of (seen last))
+      → EndsAt (seen m) n.peer V (tell (stacks_of site) n.lives n.local n.peer None) n.calls w
+      → Serves result site (source_of (seen first)) (sink_of (seen first)) (source_of (seen last)) (sink_of (seen last))
   talk_ends over front whole result w is e h =
-      subst (λ (x : Status). Serves x app (source_of (seen first)) (sink_of (seen first)) (source_of (seen last)) (sink_of (seen last))) (sym is)
-      (subst (λ (x : L). Serves (status_by w) app (source_of (seen first)) (sink_of (seen first)) (source_of (seen x)) (sink_of (seen x))) (sym to)
-      (subst (λ (x : L). Serves (status_by w) app (source_of (seen x)) (sink_of (seen x)) (source_of (seen m)) (sink_of (seen m))) from
-      (talked app V o n (seen k) (seen m) start d (front m) (whole m) (over m).0 (over m).1 w e h)))
+      subst (λ (x : Status). Serves x site (source_of (seen first)) (sink_of (seen first)) (source_of (seen last)) (sink_of (seen last))) (sym is)
+      (subst (λ (x : L). Serves (status_by w) site (source_of (seen first)) (sink_of (seen first)) (source_of (seen x)) (sink_of (seen x))) (sym to)
+      (subst (λ (x : L). Serves (status_by w) site (source_of (seen x)) (sink_of (seen x)) (source_of (seen m)) (sink_of (seen m))) from
+      (talked site V o n (seen k) (seen m) start d (front m) (whole m) (over m).0 (over m).1 w e h)))
 
   pub talk_long : Tells (seen first).given [] → most_taken ≤ n.taken
-      → PartAt (seen m) n.peer V (tell (stacks_of app) n.lives n.local n.peer None) n.calls → ServedLong app (source_of (seen last)) (sink_of (seen last))
+      → PartAt (seen m) n.peer V (tell (stacks_of site) n.lives n.local n.peer None) n.calls → ServedLong site (source_of (seen last)) (sink_of (seen last))
   talk_long none long h =
-      subst (λ (x : L). ServedLong app (source_of (seen x)) (sink_of (seen x))) (sym to)
-      (talked_long app V o n (seen k) (seen m) start d (subst (λ (x : L). Tells (seen x).given []) (sym from) none) long h)
+      subst (λ (x : L). ServedLong site (source_of (seen x)) (sink_of (seen x))) (sym to)
+      (talked_long site V o n (seen k) (seen m) start d (subst (λ (x : L). Tells (seen x).given []) (sym from) none) long h)
 
 -- what stands in an answer that is some
 pub some_at : {A : Type 0} (P : A → Type 0) (o : Option A) (x : A) → IfSome o P → o ≡ Some x → P x

@@ -5,6 +5,4 @@ pub mod Quiet
 pub mod QuietSteps
 pub mod Seen
 pub mod Stack
-pub mod StackSteps
 pub mod Status
-pub mod Words

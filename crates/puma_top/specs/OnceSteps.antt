@@ -1,26 +1,32 @@
 -- How one connection ends, by its status. This serves inner contracts alone.
-use Rattle.std.specs.Prelude.{◌≡◌, ◌⊎◌, ⊤}
+use Rattle.std.specs.Prelude.{◌≡◌, ◌⊎◌, Bool, ⊤}
 use Rattle.rack_outside.specs.Link.{Seen}
 use Rattle.rack_outside.specs.Told.{Rose}
 use Rattle.talk_core.specs.declared.ended.Why.{Why}
 use Rattle.talk_core.specs.declared.ended.Why.TheVariants as why
 use Rattle.stock_apps.specs.declared.app.App.{App}
-use Rattle.puma_top.specs.Once.{ServedAll, ServedGiven, ServedPart, ServedLess, ServedLong}
+use Rattle.builder_core.specs.Nodes.{tree_of}
+use Rattle.builder_core.specs.Runs.{StackRuns}
+use Rattle.puma_top.specs.Once.{Site, ServedAll, ServedGiven, ServedPart, ServedLess, ServedLong}
 use Rattle.puma_top.specs.Seen.{SourceSeen, SinkSeen}
 use Rattle.puma_top.specs.declared.status.Status.{Status}
 use Rattle.puma_top.specs.declared.status.Status.TheVariants.{Done, NoMemory, Usage, File, Stack, SourceFault, SinkFault, TooLong}
 
-abbrev pub Serves : Status → App → SourceSeen → SinkSeen → SourceSeen → SinkSeen → Type 0
-Serves Done app source sink source_then sink_then = ServedAll app source_then sink_then
-Serves NoMemory app source sink source_then sink_then =
-    (sink_then.written ≡ sink.written) ⊎ ServedPart app source_then sink_then
-Serves Usage app source sink source_then sink_then = ⊥
-Serves (File why) app source sink source_then sink_then = ⊥
-Serves (Stack line rule) app source sink source_then sink_then = ⊥
-Serves SourceFault app source sink source_then sink_then =
-    Rose source.faults source_then.faults × ServedGiven app source_then sink_then
-Serves SinkFault app source sink source_then sink_then = Rose sink.faults sink_then.faults × ServedLess app source_then sink_then
-Serves TooLong app source sink source_then sink_then = ServedLong app source_then sink_then
+-- what serves, by its runner
+abbrev pub site_of : StackRuns App → Bool → Site
+site_of runner hijack = record { stack = tree_of runner.stack; hijack = hijack }
+
+abbrev pub Serves : Status → Site → SourceSeen → SinkSeen → SourceSeen → SinkSeen → Type 0
+Serves Done site source sink source_then sink_then = ServedAll site source_then sink_then
+Serves NoMemory site source sink source_then sink_then =
+    (sink_then.written ≡ sink.written) ⊎ ServedPart site source_then sink_then
+Serves Usage site source sink source_then sink_then = ⊥
+Serves (File why) site source sink source_then sink_then = ⊥
+Serves (Stack line rule) site source sink source_then sink_then = ⊥
+Serves SourceFault site source sink source_then sink_then =
+    Rose source.faults source_then.faults × ServedGiven site source_then sink_then
+Serves SinkFault site source sink source_then sink_then = Rose sink.faults sink_then.faults × ServedLess site source_then sink_then
+Serves TooLong site source sink source_then sink_then = ServedLong site source_then sink_then
 
 -- nobody drains, halts or times this connection, and no hijacker takes it over
 abbrev pub IsOfOnce : Why → Type 0

@@ -1,18 +1,16 @@
 -- The steps of a command. This serves inner contracts alone.
-use Rattle.std.specs.Prelude.{◌≡◌, ℕ, ◌⊎◌, List, Option, None, Some, Result, Ok, Err, ⊤}
+use Rattle.std.specs.Prelude.{◌≡◌, ℕ, ◌⊎◌, List, [], ◌++◌, ◌≢◌, Bool, Option, None, Some, Result, Ok, Err, ⊤}
 use Rattle.rack_outside.specs.declared.files.FileRead.TheVariants as read
 use Rattle.rack_outside.specs.Files.{Shelf}
-use Rattle.puma_top.specs.Seen.{FileReads, FilesSeen, Seen}
-use Rattle.puma_top.specs.Words as words
-use Rattle.puma_top.specs.Quiet.{ReadOnce, NotRead, IsBadStack, Served, ServedInPart, CutOff, WriteFailed, CutShort}
+use Rattle.rack_outside.specs.Link.{Tells}
+use Rattle.rack_outside.specs.Told.{Rose}
+use Rattle.stock_apps.specs.declared.app.App.{App}
+use Rattle.builder_core.specs.declared.steps.Steps.{Steps}
+use Rattle.builder_core.specs.Plan.{Plan, plan}
+use Rattle.puma_top.specs.Seen.{FileReads, FilesSeen, SinkSeen}
+use Rattle.puma_top.specs.Quiet.{ReadOnce, NotRead, HasRead, IsBadStack}
 use Rattle.puma_top.specs.declared.status.Status.{Status}
 use Rattle.puma_top.specs.declared.status.Status.TheVariants.{Done, NoMemory, Usage, File, Stack, SourceFault, SinkFault, TooLong}
-use Rattle.puma_top.specs.declared.words.Command.{Command}
-use Rattle.puma_top.specs.declared.words.Command.TheVariants.{Once}
-
--- what the code's command says
-abbrev pub said : Command → words.Command
-said (Once name) = words.once name.now
 
 -- what files show, by what they tell
 abbrev pub files_seen : {F : Type 0} → (F → Option Shelf) → (F → Option FileReads) → (F → ℕ) → F → FilesSeen
@@ -24,20 +22,43 @@ Opens (Ok text) name old new = ReadOnce name (read.Text text) old new
 Opens (Err Done) name old new = ⊥
 Opens (Err NoMemory) name old new = ⊤
 Opens (Err Usage) name old new = ⊥
-Opens (Err (File why)) name old new = NotRead why (Some (words.once name)) old new
+Opens (Err (File why)) name old new = NotRead why name old new
 Opens (Err (Stack line rule)) name old new = ⊥
 Opens (Err SourceFault) name old new = ⊥
 Opens (Err SinkFault) name old new = ⊥
 Opens (Err TooLong) name old new = ⊥
 
--- what is known of a command that ended, by its status
-abbrev pub Did : Status → Option words.Command → Seen → Seen → Type 0
-Did Done command old new = Served command old new
-Did NoMemory command old new =
-    ((name : List ℕ) × (command ≡ Some (words.once name))) × ((new.sink.written ≡ old.sink.written) ⊎ ServedInPart command old new)
-Did Usage command old new = command ≡ None
-Did (File why) command old new = NotRead why command old.files new.files
-Did (Stack line rule) command old new = (line ≡ 1) × (rule ≡ 0) × IsBadStack command old.files new.files
-Did SourceFault command old new = CutOff command old new
-Did SinkFault command old new = WriteFailed command old new
-Did TooLong command old new = CutShort command old new
+-- the steps that the code read, as data
+abbrev pub plan_read : Result (Steps App) Status → Result (Plan App) Status
+plan_read (Ok steps) = Ok (plan steps)
+plan_read (Err status) = Err status
+
+-- reading its steps
+abbrev pub OpensSteps : Result (Plan App) Status → List ℕ → FilesSeen → FilesSeen → Type 0
+OpensSteps (Ok steps) name old new = HasRead name steps old new
+OpensSteps (Err Done) name old new = ⊥
+OpensSteps (Err NoMemory) name old new = ⊤
+OpensSteps (Err Usage) name old new = ⊥
+OpensSteps (Err (File why)) name old new = NotRead why name old new
+OpensSteps (Err (Stack line rule)) name old new = IsBadStack name line rule old new
+OpensSteps (Err SourceFault) name old new = ⊥
+OpensSteps (Err SinkFault) name old new = ⊥
+OpensSteps (Err TooLong) name old new = ⊥
+
+-- a front of the text was written
+pub record WroteFront (text : List ℕ) (sink : SinkSeen) : Type 0 where
+  pub front : List ℕ
+  pub more : List ℕ
+  pub begins : text ≡ front ++ more
+  pub wrote : Tells sink.written front
+
+-- what writing this text came to
+abbrev pub Prints : Status → List ℕ → SinkSeen → SinkSeen → Type 0
+Prints Done text old new = Tells new.written text
+Prints NoMemory text old new = WroteFront text new
+Prints Usage text old new = ⊥
+Prints (File why) text old new = ⊥
+Prints (Stack line rule) text old new = ⊥
+Prints SourceFault text old new = ⊥
+Prints SinkFault text old new = Rose old.faults new.faults × ((h : WroteFront text new) × (h.more ≢ []))
+Prints TooLong text old new = ⊥

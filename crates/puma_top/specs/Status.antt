@@ -25,17 +25,6 @@ UnlessNoMemory SourceFault P = P
 UnlessNoMemory SinkFault P = P
 UnlessNoMemory TooLong P = P
 
--- the fact, where the words are no command
-abbrev pub OnUsage : Status → Type 0 → Type 0
-OnUsage Done P = ⊤
-OnUsage NoMemory P = ⊤
-OnUsage Usage P = P
-OnUsage (File why) P = ⊤
-OnUsage (Stack line rule) P = ⊤
-OnUsage SourceFault P = ⊤
-OnUsage SinkFault P = ⊤
-OnUsage TooLong P = ⊤
-
 -- the fact, where the connection was not begun: the words, the file or the stack is at fault
 abbrev pub OnUnread : Status → Type 0 → Type 0
 OnUnread Done P = ⊤

@@ -1,18 +1,17 @@
 //! The top calls of the server: what a command does, from its words to its status.
 #![tactic(auto)]
 
+mod check;
 #[cfg(test)]
 mod crossing;
 mod drive;
 mod laws;
 mod once;
 mod quiet;
-mod runner;
 mod stack;
 mod status;
 #[cfg(test)]
 mod tests;
-mod words;
 
 pub use laws::{one_answer_at_most, one_stack_at_most};
 pub use quiet::run_quiet;

@@ -1,30 +1,30 @@
 // The commands that wait for nobody.
-ghost use Rattle.std.specs.Prelude.{◌≡◌, ◌≢◌, [], Some};
+ghost use Rattle.std.specs.Prelude.{◌≡◌, ◌≢◌, ℕ, List, [], None, Some, map, string_bytes};
 ghost use Rattle.rack_outside.specs.Link.{Tells};
 ghost use Rattle.rack_outside.specs.Source.{IsPrefix};
-ghost use Rattle.puma_top.specs.Seen.{seen};
-ghost use Rattle.puma_top.specs.Words.{command_of, once};
-ghost use Rattle.puma_top.specs.Status.{OnUsage, OnUnread};
-ghost use Rattle.puma_top.specs.Quiet.{Ran};
-ghost use Rattle.puma_top.specs.QuietSteps.{Did, Opens, files_seen};
+ghost use Rattle.puma_top.specs.Seen.{seen, sink_seen};
+ghost use Rattle.puma_words.specs.Words.{check, command_of};
+ghost use Rattle.puma_top.specs.Status.{OnUnread};
+ghost use Rattle.puma_top.specs.Quiet.{Ran, Did, OnceDid, CheckDid};
+ghost use Rattle.puma_top.specs.QuietSteps.{files_seen};
 
+use crate::Status;
+use crate::check::print;
 use crate::once::serve;
-use crate::stack::read_stack_line;
-use crate::words::{Command, command_of};
-use crate::{FileWhy, Status};
-use rack_outside::{FileRead, Files, Sink, Source};
-use rack_types::Bytes;
+use crate::stack::{read_steps, runner_of};
+use puma_words::{Command, command_of};
+use rack_outside::{Files, Sink, Source};
 use std::alloc::Global;
-
-// The bytes that a stack file may have.
-const STACK_LIMIT: usize = 65_536;
 
 /// Runs the command that the words behind the program's name say, and tells how it ended.
 ///
 /// `once NAME` serves one connection from the source to the sink: it reads the stack file of that
 /// name, and then answers all requests that come, one behind the other, until the connection ends: by a
-/// reply that closes, behind a refusal, or at the input's end. It waits for nobody but the objects that
-/// it was handed, and takes memory.
+/// reply that closes, behind a refusal, or at the input's end. `once --no-hijack NAME` tells the
+/// applications that none may take the connection over. `check NAME` reads the stack file of that name and
+/// writes its written form to the sink.
+///
+/// It waits for nobody but the objects that it was handed, and takes memory.
 ///
 /// Nothing was given by the source yet, and nothing written to the sink.
 pub fn run_quiet<F: Files, S: Source, K: Sink>(
@@ -37,8 +37,9 @@ pub fn run_quiet<F: Files, S: Source, K: Sink>(
     requires given { Tells (S.given src.old) [] }
     requires written { Tells (K.written out.old) [] }
     ensures ran { let shown = seen F.holds F.texts F.faults S.input S.given S.faults K.written K.faults in
-        Ran (command_of words.now) result (shown files.old src.old out.old) (shown files.new src.new out.new) }
-    ensures unasked { OnUsage result (files.new ≡ files.old) }
+        Ran (command_of (map string_bytes words.now)) result (shown files.old src.old out.old) (shown files.new src.new out.new) }
+    ensures unasked { command_of (map string_bytes words.now) ≡ None → (files.new ≡ files.old) × ((src.new ≡ src.old) × (out.new ≡ out.old)) }
+    ensures apart { (name : List ℕ) → command_of (map string_bytes words.now) ≡ Some (check name) → src.new ≡ src.old }
     ensures unread { OnUnread result ((src.new ≡ src.old) × (out.new ≡ out.old)) }
 {
     run_command(alloc, words, files, src, out)
@@ -55,23 +56,27 @@ fn run_command<F: Files, S: Source, K: Sink>(
     requires given { Tells (S.given src.old) [] }
     requires written { Tells (K.written out.old) [] }
     ensures did { let shown = seen F.holds F.texts F.faults S.input S.given S.faults K.written K.faults in
-        Did result (command_of words.now) (shown files.old src.old out.old) (shown files.new src.new out.new) }
+        Did result (command_of (map string_bytes words.now)) (shown files.old src.old out.old) (shown files.new src.new out.new) }
     ensures same { S.input src.new ≡ S.input src.old }
     ensures prefix { IsPrefix (S.given src.old) (S.input src.old) → IsPrefix (S.given src.new) (S.input src.new) }
-    ensures unasked { OnUsage result (files.new ≡ files.old) }
+    ensures unasked { command_of (map string_bytes words.now) ≡ None → (files.new ≡ files.old) × ((src.new ≡ src.old) × (out.new ≡ out.old)) }
+    ensures apart { (name : List ℕ) → command_of (map string_bytes words.now) ≡ Some (check name) → src.new ≡ src.old }
     ensures unread { OnUnread result ((src.new ≡ src.old) × (out.new ≡ out.old)) }
 {
-    let Some(command) = command_of(words) else {
-        return Status::Usage;
-    };
-    match command {
-        Command::Once(name) => run_once(alloc, name, files, src, out),
+    match command_of(alloc, words) {
+        Ok(Some(Command::Once { hijack, stack })) => {
+            run_once(alloc, hijack, stack, files, src, out)
+        }
+        Ok(Some(Command::Check { stack })) => run_check(alloc, stack, files, out),
+        Ok(None) => Status::Usage,
+        Err(_) => Status::NoMemory,
     }
 }
 
 // Serves one connection by the stack of the file with this name.
 fn run_once<F: Files, S: Source, K: Sink>(
     alloc: Global,
+    hijack: bool,
     name: &str,
     files: &mut F,
     src: &mut S,
@@ -80,32 +85,37 @@ fn run_once<F: Files, S: Source, K: Sink>(
     requires given { Tells (S.given src.old) [] }
     requires written { Tells (K.written out.old) [] }
     ensures did { let shown = seen F.holds F.texts F.faults S.input S.given S.faults K.written K.faults in
-        Did result (Some (once name.now)) (shown files.old src.old out.old) (shown files.new src.new out.new) }
+        OnceDid result hijack name.now (shown files.old src.old out.old) (shown files.new src.new out.new) }
     ensures same { S.input src.new ≡ S.input src.old }
     ensures prefix { IsPrefix (S.given src.old) (S.input src.old) → IsPrefix (S.given src.new) (S.input src.new) }
     ensures used { result ≢ Status.Usage }
     ensures unread { OnUnread result ((src.new ≡ src.old) × (out.new ≡ out.old)) }
 {
-    let text = match read_stack(files, name) {
-        Ok(text) => text,
+    let steps = match read_steps(alloc, files, name) {
+        Ok(steps) => steps,
         Err(status) => return status,
     };
-    match read_stack_line(alloc, text.get()) {
-        Ok(Some(app)) => serve(alloc, app, src, out),
-        Ok(None) => Status::Stack { line: 1, rule: 0 },
+    match runner_of(alloc, steps) {
+        Ok(runner) => serve(alloc, runner, hijack, src, out),
         Err(_) => Status::NoMemory,
     }
 }
 
-// The text of the stack file.
-fn read_stack<F: Files>(files: &mut F, name: &str) -> Result<Bytes, Status>
-    ensures { let shown = files_seen F.holds F.texts F.faults in Opens result name.now (shown files.old) (shown files.new) }
+// Writes the written form of the stack of the file with this name.
+fn run_check<F: Files, K: Sink>(alloc: Global, name: &str, files: &mut F, out: &mut K) -> Status
+    requires written { Tells (K.written out.old) [] }
+    ensures did { let shown = files_seen F.holds F.texts F.faults in
+        CheckDid result name.now (shown files.old) (shown files.new) (sink_seen K.written K.faults out.old) (sink_seen K.written K.faults out.new) }
+    ensures used { result ≢ Status.Usage }
+    ensures unread { OnUnread result (out.new ≡ out.old) }
 {
-    match files.read(name, STACK_LIMIT) {
-        Ok(FileRead::Text(text)) => Ok(text),
-        Ok(FileRead::Absent) => Err(Status::File(FileWhy::Absent)),
-        Ok(FileRead::Long) => Err(Status::File(FileWhy::Long)),
-        Ok(FileRead::Failed) => Err(Status::File(FileWhy::Failed)),
-        Err(_) => Err(Status::NoMemory),
+    let steps = match read_steps(alloc, files, name) {
+        Ok(steps) => steps,
+        Err(status) => return status,
+    };
+    let mut text = Vec::new(alloc);
+    match stack_file::write(alloc, &steps, &mut text) {
+        Ok(()) => print(&text, out),
+        Err(_) => Status::NoMemory,
     }
 }

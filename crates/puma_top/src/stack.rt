@@ -1,92 +1,71 @@
-// The stack file: one line, `run` with the name of an endpoint and its arguments.
-ghost use Rattle.std.specs.Prelude.{◌≡◌, ◌≤◌, ◌∷◌, IfOk, option_map, length};
-ghost use Rattle.rack_text.specs.Escaped.{unescaped};
-ghost use Rattle.stock_apps.specs.Words.{app_of};
-ghost use Rattle.puma_top.specs.Stack.{stack_of, line_of, words_of, texts_of, good};
-ghost use Rattle.puma_top.specs.StackSteps.{words_behind, size_behind};
+// The stack file: its text, its steps, and what runs them.
+ghost use Rattle.std.specs.Prelude.{◌≡◌, ℕ, List, IfOk};
+ghost use Rattle.builder_core.specs.Nodes.{tree_of};
+ghost use Rattle.builder_core.specs.Plan.{plan};
+ghost use Rattle.stack_file.specs.Reads.{IsStack};
+ghost use Rattle.puma_top.specs.Stack.{IsStackOf};
+ghost use Rattle.puma_top.specs.QuietSteps.{Opens, OpensSteps, plan_read, files_seen};
 
-use rack_text::unescape;
+use crate::{FileWhy, Status};
+use builder_core::{BuildFault, StackRunner, Steps, to_app};
+use rack_outside::{FileRead, Files};
 use rack_types::{Bytes, NoMemory};
-use std::alloc::Global;
+use stack_file::ReadFault;
+use std::alloc::{AllocError, Global};
+use std::sync::Arc;
 use stock_apps::App;
 
-/// The endpoint that this stack file runs, where it is a stack: words parted by one space each, with at
-/// most one line feed behind them, and each argument an escaped text.
+// The bytes that a stack file may have.
+const STACK_LIMIT: usize = 65_536;
+
+/// The steps of the stack file with this name.
 ///
-/// It takes memory for the arguments.
-pub(crate) fn read_stack_line(alloc: Global, text: &[u8]) -> Result<Option<App>, NoMemory>
-    ensures { IfOk result (λ app. app ≡ stack_of text.now) }
+/// It takes memory. A file object that gives a longer text than was asked for counts as want of memory.
+pub(crate) fn read_steps<F: Files>(
+    alloc: Global,
+    files: &mut F,
+    name: &str,
+) -> Result<Steps<App>, Status>
+    ensures { let shown = files_seen F.holds F.texts F.faults in OpensSteps (plan_read result) name.now (shown files.old) (shown files.new) }
 {
-    let (verb, Some(behind)) = first_word(line_of(text)) else {
-        return Ok(None);
-    };
-    if verb != b"run".as_slice() {
-        return Ok(None);
+    let text = read_stack(files, name)?;
+    if text.get().len() > STACK_LIMIT {
+        return Err(Status::NoMemory);
     }
-    let (name, behind) = first_word(behind);
-    match texts_of(alloc, behind)? {
-        Some(arguments) => app_by(alloc, name, &arguments),
-        None => Ok(None),
-    }
-}
-
-// The endpoint that the name and its arguments say, if they say one.
-fn app_by(alloc: Global, name: &[u8], arguments: &[Bytes]) -> Result<Option<App>, NoMemory>
-    ensures { IfOk result (λ app. app ≡ good (app_of name.now arguments.now)) }
-{
-    match App::from_words(alloc, name, arguments)? {
-        Ok(app) => Ok(Some(app)),
-        Err(_) => Ok(None),
+    match stack_file::read(alloc, text.get()) {
+        Ok(steps) => Ok(steps),
+        Err(ReadFault::Bad(fault)) => Err(Status::Stack {
+            line: fault.line,
+            rule: fault.rule,
+        }),
+        Err(ReadFault::NoMemory) => Err(Status::NoMemory),
     }
 }
 
-// The texts that these words are escaped texts of, where each is one: the words in what stands behind a
-// space, none where there is no space.
-fn texts_of(alloc: Global, words: Option<&[u8]>) -> Result<Option<Vec<Bytes>>, NoMemory>
-    ensures { IfOk result (λ texts. option_map (λ all. all.items) texts ≡ texts_of (words_behind (option_map (λ b. b.now) words.entry))) }
+// The text of the stack file.
+fn read_stack<F: Files>(files: &mut F, name: &str) -> Result<Bytes, Status>
+    ensures { let shown = files_seen F.holds F.texts F.faults in Opens result name.now (shown files.old) (shown files.new) }
 {
-    let mut texts = Vec::new(alloc);
-    let mut left = words;
-    while let Some(bytes) = left {
-        let (word, behind) = first_word(bytes);
-        let Some(text) = text_of(alloc, word)? else {
-            return Ok(None);
-        };
-        texts.push(text)?;
-        left = behind;
-    }
-    Ok(Some(texts))
-}
-
-// The text that the word is an escaped text of, where it is one.
-fn text_of(alloc: Global, word: &[u8]) -> Result<Option<Bytes>, NoMemory>
-    ensures { IfOk result (λ text. text ≡ unescaped word.now) }
-{
-    let mut text = Vec::new(alloc);
-    if unescape(word, &mut text)? {
-        Ok(Some(Bytes::new(text)))
-    } else {
-        Ok(None)
+    match files.read(name, STACK_LIMIT) {
+        Ok(FileRead::Text(text)) => Ok(text),
+        Ok(FileRead::Absent) => Err(Status::File(FileWhy::Absent)),
+        Ok(FileRead::Long) => Err(Status::File(FileWhy::Long)),
+        Ok(FileRead::Failed) => Err(Status::File(FileWhy::Failed)),
+        Err(_) => Err(Status::NoMemory),
     }
 }
 
-// The bytes before the first space, or all of them, and those behind it.
-fn first_word(text: &[u8]) -> (&[u8], Option<&[u8]>)
-    ensures words { words_of text.now ≡ result.0.now ∷ words_behind (option_map (λ b. b.now) result.1) }
-    ensures less { size_behind (option_map (λ b. b.now) result.1) ≤ length text.now }
+/// What runs the stack of these steps, which were read. Only memory can be refused.
+pub(crate) fn runner_of(alloc: Global, steps: Steps<App>) -> Result<StackRunner<App>, NoMemory>
+    requires read { (text : List ℕ) × IsStack text (plan steps) }
+    ensures stack { IfOk result (λ runner. (text : List ℕ) → IsStack text (plan steps) → IsStackOf text (tree_of runner.stack)) }
+    ensures fresh { IfOk result (λ runner. runner.runs ≡ 0) }
 {
-    match text.iter().position(|b| *b == b' ') {
-        Some(at) => (&text[..at], Some(&text[at + 1..])),
-        None => (text, None),
-    }
-}
-
-// The text without the line feed at its end, if one is there.
-fn line_of(text: &[u8]) -> &[u8]
-    ensures { result.now ≡ line_of text.now }
-{
-    match text.strip_suffix(b"\n".as_slice()) {
-        Some(line) => line,
-        None => text,
+    match to_app(alloc, steps) {
+        Ok(stack) => Ok(StackRunner::new(Arc::new(alloc, stack)?)),
+        Err(BuildFault::NoMemory) => Err(AllocError),
+        Err(BuildFault::TooMany) => unreachable!(),
+        Err(BuildFault::TooDeep) => unreachable!(),
+        Err(BuildFault::NoRun) => unreachable!(),
     }
 }

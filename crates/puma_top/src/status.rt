@@ -29,7 +29,7 @@ pub enum Status {
     SourceFault,
     /// A write to the connection failed.
     SinkFault,
-    /// The connection gave more bytes than are taken of one: 2^40.
+    /// The connection gave as many bytes as are taken of one: 2^40.
     TooLong,
 }
 

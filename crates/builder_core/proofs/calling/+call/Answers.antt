@@ -1,4 +1,4 @@
-use Rattle.std.proofs.Common.{◌<◌, ◌+◌, ◌*◌, rules, ◌∙◌, sym, ap, arith}
+use Rattle.std.proofs.Common.{◌<◌, ◌+◌, ◌*◌, rules, ◌∙◌, ap, arith}
 use Rattle.builder_core.specs.Nodes.{numbered}
 use Rattle.builder_core.specs.Places.{path_of, best}
 use Rattle.builder_core.proofs.Calls.{at_node, means-run, means-use, means-found, means-unfound, means-cascade, found_is}
@@ -21,9 +21,9 @@ pub call_node-call_inside-requires : goal.call_node-call_inside-requires
 call_node-call_inside-requires g t c κs within =
     let is = at_node c.args.nodes.now c.args.at _ _ c.requires.there c.index-nodes-at.is c.in-Map.is in
     let found =
-        c.in-Some.ensures
-        ∙ ap (λ path. best path (numbered c.deref.result.now)) c.path_of.ensures
-        ∙ ap (λ ps. best (path_of c.args.env.now.pairs) (numbered ps)) c.deref.ensures.value in
+    c.in-Some.ensures
+    ∙ ap (λ path. best path (numbered c.deref.result.now)) c.path_of.ensures
+    ∙ ap (λ ps. best (path_of c.args.env.now.pairs) (numbered ps)) c.deref.ensures.value in
     let fit = found_is c.args.nodes.now c.requires.falls c.args.at (path_of c.args.env.now.pairs) c.in-Map.places _ is found in
     let fits = fits_within (path_of c.args.env.now.pairs) c.in-Some.place.now.path fit.0 in
     let low : c.in-Some.place.now.node < c.args.at = fit.1 in
@@ -44,18 +44,18 @@ pub call_node-returns-in-None-clause-answers : goal.call_node-returns-in-None-cl
 call_node-returns-in-None-clause-answers g t c =
     let is = at_node c.args.nodes.now c.args.at _ _ c.requires.there c.index-nodes-at.is c.in-Map.is in
     let found =
-        c.in-None.ensures
-        ∙ ap (λ path. best path (numbered c.deref.result.now)) c.path_of.ensures
-        ∙ ap (λ ps. best (path_of c.args.env.now.pairs) (numbered ps)) c.deref.ensures.value in
+    c.in-None.ensures
+    ∙ ap (λ path. best path (numbered c.deref.result.now)) c.path_of.ensures
+    ∙ ap (λ ps. best (path_of c.args.env.now.pairs) (numbered ps)) c.deref.ensures.value in
     rw (means-unfound g.E.Endpoint.answer c.args.nodes.now c.requires.falls c.args.at c.args.env.now.pairs c.args.env.now.input.bytes c.in-Map.places is found) c.say_not_found.ensures
 
 pub call_node-returns-in-Some-clause-answers : goal.call_node-returns-in-Some-clause-answers
 call_node-returns-in-Some-clause-answers g t c =
     let is = at_node c.args.nodes.now c.args.at _ _ c.requires.there c.index-nodes-at.is c.in-Map.is in
     let found =
-        c.in-Some.ensures
-        ∙ ap (λ path. best path (numbered c.deref.result.now)) c.path_of.ensures
-        ∙ ap (λ ps. best (path_of c.args.env.now.pairs) (numbered ps)) c.deref.ensures.value in
+    c.in-Some.ensures
+    ∙ ap (λ path. best path (numbered c.deref.result.now)) c.path_of.ensures
+    ∙ ap (λ ps. best (path_of c.args.env.now.pairs) (numbered ps)) c.deref.ensures.value in
     rw (means-found g.E.Endpoint.answer c.args.nodes.now c.requires.falls c.args.at c.args.env.now.pairs c.args.env.now.input.bytes c.in-Map.places _ is found) c.call_inside.ensures.answers
 
 pub call_node-returns-in-Cascade-clause-answers : goal.call_node-returns-in-Cascade-clause-answers

@@ -1,5 +1,4 @@
 use Rattle.std.proofs.Common.{ap, ◌∙◌, codes}
-use Rattle.rack_types.specs.Env.{Environment}
 use Rattle.stock_middleware.specs.Undo.{put_back}
 use Rattle.builder_core.proofs.places.enter.Goals as goal
 

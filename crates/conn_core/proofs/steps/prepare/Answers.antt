@@ -1,4 +1,4 @@
-use Rattle.std.proofs.Common.{◌≡◌, Bool, ℕ, List, Bor, [], refl, ap, sym, ◌∙◌}
+use Rattle.std.proofs.Common.{◌≡◌, Bool, ℕ, List, Bor, [], ap, sym, ◌∙◌}
 use Rattle.std.specs.Prelude.{bytes_eq, codes}
 use Rattle.rack_types.specs.declared.limits.Version.{Version}
 use Rattle.rack_types.specs.Fields.{persists}
@@ -6,7 +6,6 @@ use Rattle.rack_types.specs.Input.{Reading, unread}
 use Rattle.rack_types.specs.Request.{Parts, with_body}
 use Rattle.rack_env.specs.Environment.{environment}
 use Rattle.reply_framing.specs.declared.types.Ask.{Ask}
-use Rattle.talk_core.specs.Teller.{ask_of}
 use Rattle.conn_core.proofs.PrepareLemmas.{some_and_at}
 use Rattle.conn_core.proofs.steps.prepare.Goals as goal
 

@@ -1,5 +1,4 @@
-use Rattle.std.proofs.Common.{◌≡◌, ap, sym, subst}
-use Rattle.rack_types.specs.declared.body.Body.{Ghosts}
+use Rattle.std.proofs.Common.{sym, subst}
 use Rattle.conn_core.specs.declared.inside.Inside.{Inside}
 use Rattle.conn_core.specs.Place.{IsSaying}
 use Rattle.conn_core.proofs.ConnLemmas.{owed_says, says_owed}

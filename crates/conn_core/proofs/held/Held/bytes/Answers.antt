@@ -1,4 +1,4 @@
-use Rattle.std.proofs.Common.{◌≡◌, ◌-◌, ◌≤◌, ℕ, List, length, take, drop, ap, sym, ◌∙◌, arith}
+use Rattle.std.proofs.Common.{◌-◌, ◌≤◌, ℕ, List, length, take, drop, ap, ◌∙◌, arith}
 use Rattle.conn_core.proofs.HeldLemmas.{between}
 use Rattle.conn_core.proofs.held.Held.bytes.Goals as goal
 

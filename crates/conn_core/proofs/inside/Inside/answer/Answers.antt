@@ -1,4 +1,4 @@
-use Rattle.std.proofs.Common.{◌≡◌, ◌+◌, ◌==◌, ℕ, List, None, refl, sym, ap, subst}
+use Rattle.std.proofs.Common.{◌+◌, ◌==◌, None, refl, sym}
 use Rattle.rack_types.specs.Request.{Parts}
 use Rattle.rack_env.specs.Environment.{env_pairs}
 use Rattle.reply_framing.specs.Reply.{WholeReply}
@@ -6,9 +6,7 @@ use Rattle.talk_core.specs.declared.ended.Why.TheVariants as why
 use Rattle.talk_core.specs.Teller.{Teller, reply_of, is_last}
 use Rattle.talk_core.proofs.CallerLemmas.{is_last_none, told_at, told_before, told_here, agrees_same}
 use Rattle.conn_core.specs.declared.place.At.TheVariants as at
-use Rattle.conn_core.specs.declared.place.At.{At}
 use Rattle.conn_core.specs.Holds.{kept}
-use Rattle.conn_core.specs.Rests.{RestsAt}
 use Rattle.conn_core.proofs.BeginLemmas.{answered, unanswered}
 use Rattle.conn_core.proofs.PlaceLemmas.{stands_place}
 use Rattle.conn_core.proofs.RetellLemmas.{retold}

@@ -1,8 +1,9 @@
-use Rattle.std.proofs.Common.{◌≡◌, ◌↔◌, IsTrue, ◌<◌, ℕ, List, refl, sym, ap, subst, ◌∙◌, arith}
+use Rattle.std.proofs.Common.{◌≡◌, ◌↔◌, IsTrue, ℕ, refl, sym, subst, ◌∙◌}
 use Rattle.circular_buffer.specs.Buffer.{Buffer}
 use Rattle.conn_core.specs.declared.place.At.{At}
 use Rattle.conn_core.specs.Holds.{kept}
 use Rattle.conn_core.specs.Inner.{IsFilledAt}
+use Rattle.conn_core.specs.Moves.{ring_room}
 use Rattle.conn_core.specs.Place.{IsSaying}
 use Rattle.conn_core.specs.Rests.{RestsAt}
 use Rattle.conn_core.specs.Steps.{FillsTo}
@@ -44,3 +45,16 @@ returns-clause-fills g c =
     fills_shown p.peer p.local p.lives.items p.calls p.taken c.is_saying-goes_on.result p.at c.put.new.at x y
     (subst (λ (b : At g.row.B.Denot g.row.H.Denot). FillsTo p.at x b y) (sym c.put.ensures) fills) c.requires
     (subst (λ (b : At g.row.B.Denot g.row.H.Denot). IsTrue c.is_saying-goes_on.result ↔ IsSaying b) (sym c.put.ensures) c.is_saying-goes_on.ensures)
+
+pub returns-clause-some : goal.returns-clause-some
+returns-clause-some g c = λ goes.
+    let p = c.args.self.now in
+    let x : Buffer ℕ = p.ring in
+    let y : Buffer ℕ = c.fill-at.new.ring in
+    let fills : FillsTo p.at x c.fill-at.result y =
+    subst (λ (a : At g.row.B.Denot g.row.H.Denot). FillsTo a x c.fill-at.result y) c.replace.ensures.value c.fill-at.ensures in
+    let room : y.capacity ≡ ring_room = fills_room p.at c.fill-at.result x y fills c.requires ∙ p.room in
+    let rests : RestsAt c.fill-at.result p.intake p.held y.items p.calls =
+    fills_rest p.at c.fill-at.result x y p.intake p.held p.calls fills c.requires p.rests in
+    subst (λ (a : At g.row.B.Denot g.row.H.Denot). IsFilledAt a y.items) (sym c.put.ensures)
+    (fills_some p.at c.fill-at.result x y p.intake p.held p.calls fills c.requires room rests (c.is_saying-goes_on.ensures.0 goes))

@@ -1,8 +1,13 @@
-use Rattle.std.proofs.Common.{ℕ, List, sym, ap}
+use Rattle.std.proofs.Common.{◌≡◌, ◌++◌, ℕ, List, refl, sym, ap, ◌∙◌}
+use Rattle.reply_framing.specs.Fault.{fault_reply}
 use Rattle.circular_buffer.specs.Buffer.{Buffer}
 use Rattle.conn_core.specs.declared.place.At.TheVariants as at
+use Rattle.conn_core.specs.declared.place.At.{At}
 use Rattle.conn_core.specs.Holds.{kept}
+use Rattle.conn_core.specs.Place.{state_at}
+use Rattle.conn_core.specs.Shown.{replied_at, owed_at, why_at}
 use Rattle.conn_core.proofs.BeginLemmas.{named}
+use Rattle.conn_core.proofs.MoveLemmas.{refused_ring}
 use Rattle.conn_core.proofs.PlaceLemmas.{stands_place}
 use Rattle.conn_core.proofs.inside.Inside.refuse.Goals as goal
 
@@ -12,3 +17,20 @@ returns-clause-holds g c = λ V T s h.
     (named V T s c.args.self.now.peer c.args.self.now.local (kept c.args.self.now) c.args.fault c.put_fault.new.ring.items
     (ap (λ (b : Buffer ℕ). b.items) c.put_fault.ensures)
     (stands_place c.args.self.now.at (at.Refused c.args.fault) V T s c.args.self.now.peer (kept c.args.self.now) c.requires h))
+
+pub returns-clause-names : goal.returns-clause-names
+returns-clause-names g c =
+    let p = c.args.self.now in
+    let place : c.put.new.at ≡ at.Refusing = c.put.ensures in
+    let ring : c.put_fault.new.ring.items ≡ fault_reply c.args.fault =
+    ap (λ (b : Buffer ℕ). b.items) c.put_fault.ensures
+    ∙ ap (λ (x : List ℕ). x ++ fault_reply c.args.fault) (refused_ring p.at c.args.fault p.intake p.held p.ring.items p.calls c.requires p.rests) in
+    record {
+      same = record { peer = refl; local = refl; lives = refl; taken = refl };
+      calls = refl;
+      replied = ap (λ (a : At g.row.B.Denot g.row.H.Denot). replied_at a p.calls) place
+          ∙ sym (ap (λ (a : At g.row.B.Denot g.row.H.Denot). replied_at a p.calls) c.requires);
+      state = ap (λ (a : At g.row.B.Denot g.row.H.Denot). state_at a) place;
+      why = ap (λ (a : At g.row.B.Denot g.row.H.Denot). why_at a) place;
+      owed = (c.args.fault, ap (λ (a : At g.row.B.Denot g.row.H.Denot). owed_at a c.put_fault.new.ring.items) place ∙ ring);
+    }

@@ -1,4 +1,6 @@
-use Rattle.std.proofs.Common.{◌≡◌, ◌+◌, ◌-◌, ◌≤◌, ℕ, List, refl, arith}
+use Rattle.std.proofs.Common.{◌≡◌, ◌-◌, refl, arith, inl, inr}
+use Rattle.conn_core.specs.Shown.{shows}
+use Rattle.conn_core.proofs.MovingLemmas.{wants_memory}
 use Rattle.conn_core.proofs.RetellLemmas.{no_run}
 use Rattle.conn_core.proofs.WorkLemmas.{over_falls}
 use Rattle.conn_core.proofs.inside.Inside.start.Goals as goal
@@ -12,6 +14,10 @@ returns-else-answer g c = record {
     calls = omega (arith, c.if-answer.ensures.starts.calls);
     place = c.if-answer.ensures.starts.place;
   };
+  takes = inr (
+    omega arith,
+    inr (wants_memory (shows c.args.self.now) (shows c.answer.new.self) c.if-answer.ensures.starts (c.if-answer.ensures.unrun refl)),
+  );
   left = refl;
   few = omega arith;
   falls = over_falls c.args.left.now c.args.self.now.at c.answer.new.self.at c.requires.ready (c.if-answer.ensures.unrun refl);
@@ -21,3 +27,13 @@ returns-else-answer g c = record {
 
 pub returns-in-Refused-clause-any : goal.returns-in-Refused-clause-any
 returns-in-Refused-clause-any g c = λ V T s h. no_run V T c.args.self.now.calls s c.refuse.new.self (c.refuse.ensures.holds V T s h)
+
+pub returns-then-answer-clause-takes : goal.returns-then-answer-clause-takes
+returns-then-answer-clause-takes g c =
+    let one : c.args.left.now.runs - (c.args.left.now.runs - 1) ≡ 1 = omega (arith, c.requires.left) in
+    inl (one, c.if-answer.ensures.starts)
+
+pub returns-in-Refused-clause-takes : goal.returns-in-Refused-clause-takes
+returns-in-Refused-clause-takes g c =
+    let none : c.args.left.now.runs - c.args.left.now.runs ≡ 0 = omega arith in
+    inr (none, inl c.refuse.ensures.names)

@@ -1,5 +1,6 @@
-use Rattle.std.proofs.Common.{◌≡◌, ◌+◌, ◌-◌, ℕ, List, length, arith, ap, sym, ◌∙◌, None}
+use Rattle.std.proofs.Common.{◌≡◌, ◌+◌, ◌-◌, ℕ, true, false, List, length, arith, refl, ap, sym, ◌∙◌, None, ◌⊎◌, inl, inr}
 use Rattle.rack_outside.specs.declared.link.LinkRead.TheVariants as read
+use Rattle.rack_outside.specs.declared.link.LinkWrite.TheVariants as write
 use Rattle.talk_core.specs.Counts.{counted_by}
 use Rattle.conn_core.specs.declared.left.Said.TheVariants as said
 use Rattle.conn_core.specs.declared.state.State.TheVariants as state
@@ -8,7 +9,10 @@ use Rattle.conn_core.specs.Shown.{shows, why_at}
 use Rattle.conn_core.proofs.RetellLemmas.{no_run}
 use Rattle.conn_core.proofs.ShownLemmas.{counted_sum}
 use Rattle.conn_core.proofs.TurnLemmas.{unspent, nothing_read, stays, read_steps, start_steps, say_steps, no_why_at, is_below}
+use Rattle.conn_core.proofs.MoveLemmas.{owes_rightly}
+use Rattle.conn_core.proofs.MovingLemmas.{is_open, may_write, takes_makes, ended_read, read_makes, want_makes, write_makes, over_stops, spent_stops, unwritten_stops}
 use Rattle.conn_core.proofs.inside.Inside.step.Goals as goal
+use Rattle.conn_core.proofs.inside.Inside.step.Goals.{then-left-eq0-via-then-left-eq0, then-left-eq0-via-else-left-eq0+then-left-eq0-2}
 
 pub returns-then-is_spent-clause-steps : goal.returns-then-is_spent-clause-steps
 returns-then-is_spent-clause-steps g c = stays (shows c.args.self.now) (g.L.Link.seen c.args.link.now) c.args.left.now
@@ -110,3 +114,95 @@ returns-in-Wrote-clause-any g c = λ V T h.
 pub returns-in-Waits-clause-any : goal.returns-in-Waits-clause-any
 returns-in-Waits-clause-any g c = λ V T h.
     no_run V T c.args.self.now.calls (g.L.Link.seen c.say.new.link) c.say.new.self (c.say.ensures.holds V T h)
+
+pub returns-then-is_spent-clause-moves : goal.returns-then-is_spent-clause-moves
+returns-then-is_spent-clause-moves g c =
+    let reading : place_as c.args.self.now.at ≡ state.Reading = sym c.state_at.ensures ∙ c.in-Reading.is in (
+      refl,
+      refl,
+      refl,
+      spent_stops (shows c.args.self.now) (g.L.Link.seen c.args.link.now) c.args.left.now (inl reading) (c.is_spent.ensures.0 c.if-is_spent.true),
+    )
+
+pub returns-then-is_spent-2-clause-moves : goal.returns-then-is_spent-2-clause-moves
+returns-then-is_spent-2-clause-moves g c =
+    let ready : place_as c.args.self.now.at ≡ state.Ready = sym c.state_at.ensures ∙ c.in-Ready.is in (
+      refl,
+      refl,
+      refl,
+      spent_stops (shows c.args.self.now) (g.L.Link.seen c.args.link.now) c.args.left.now (inr ready) (c.is_spent-in-Ready.ensures.0 c.if-is_spent-2.true),
+    )
+
+pub returns-then-left-eq0-clause-moves : goal.returns-then-left-eq0-clause-moves
+returns-then-left-eq0-clause-moves g c =
+    let saying : place_as c.args.self.now.at ≡ state.Answering = sym c.state_at.ensures ∙ c.in-Answering.is in
+    let none : (c.args.left.now.reads ≡ 0) ⊎ (c.args.left.now.writes ≡ 0) =
+    elim c.then-left-eq0.branch [
+      | then-left-eq0-via-then-left-eq0 w ↦ inl w.if-left-eq0.true
+      | then-left-eq0-via-else-left-eq0+then-left-eq0-2 w ↦ inr w.if-left-eq0-2.true
+    ] in (
+      refl,
+      refl,
+      refl,
+      unwritten_stops (shows c.args.self.now) (g.L.Link.seen c.args.link.now) c.args.left.now saying none,
+    )
+
+pub returns-in-Over-clause-moves : goal.returns-in-Over-clause-moves
+returns-in-Over-clause-moves g c = (
+  refl,
+  refl,
+  refl,
+  over_stops (shows c.args.self.now) (g.L.Link.seen c.args.link.now) c.args.left.now
+      (elim c.in-Over.is [ inl x ↦ inl (sym c.state_at.ensures ∙ x) | inr x ↦ inr (sym c.state_at.ensures ∙ x) ]),
+)
+
+pub returns-in-NotYet-clause-moves : goal.returns-in-NotYet-clause-moves
+returns-in-NotYet-clause-moves g c =
+    let some = unspent c.is_spent.result c.args.left.now c.is_spent.ensures c.if-is_spent.false in
+    let reading : place_as c.args.self.now.at ≡ state.Reading = sym c.state_at.ensures ∙ c.in-Reading.is in
+    read_makes read.NotYet (shows c.args.self.now) (shows c.read.new.self) (g.L.Link.seen c.args.link.now) (g.L.Link.seen c.read.new.link)
+    c.args.left.now c.args.left.now.came true refl c.in-NotYet.ensures.once reading some (owes_rightly c.read.new.self)
+
+pub returns-in-Bytes-clause-moves : goal.returns-in-Bytes-clause-moves
+returns-in-Bytes-clause-moves g c =
+    let some = unspent c.is_spent.result c.args.left.now c.is_spent.ensures c.if-is_spent.false in
+    let reading : place_as c.args.self.now.at ≡ state.Reading = sym c.state_at.ensures ∙ c.in-Reading.is in
+    read_makes (read.Bytes c.in-Bytes.n) (shows c.args.self.now) (shows c.read.new.self) (g.L.Link.seen c.args.link.now) (g.L.Link.seen c.read.new.link)
+    c.args.left.now c.saturating_add-left.result false refl c.in-Bytes.ensures.once reading some (owes_rightly c.read.new.self)
+
+pub returns-in-End-clause-moves : goal.returns-in-End-clause-moves
+returns-in-End-clause-moves g c =
+    let some = unspent c.is_spent.result c.args.left.now c.is_spent.ensures c.if-is_spent.false in
+    let reading : place_as c.args.self.now.at ≡ state.Reading = sym c.state_at.ensures ∙ c.in-Reading.is in
+    read_makes c.read.result (shows c.args.self.now) (shows c.read.new.self) (g.L.Link.seen c.args.link.now) (g.L.Link.seen c.read.new.link)
+    c.args.left.now c.args.left.now.came false (ended_read c.read.result c.in-End.is) c.read.ensures.once reading some (owes_rightly c.read.new.self)
+
+pub returns-else-is_spent-2-clause-moves : goal.returns-else-is_spent-2-clause-moves
+returns-else-is_spent-2-clause-moves g c =
+    let some = unspent c.is_spent-in-Ready.result c.args.left.now c.is_spent-in-Ready.ensures c.if-is_spent-2.false in
+    let ready : place_as c.args.self.now.at ≡ state.Ready = sym c.state_at.ensures ∙ c.in-Ready.is in
+    takes_makes (shows c.args.self.now) (shows c.start.new.self) (g.L.Link.seen c.args.link.now) c.args.left.now c.start.new.left
+    c.start.ensures.takes c.start.ensures.left c.start.ensures.few ready (is_open (shows c.args.self.now) (g.L.Link.seen c.args.link.now) c.args.left.now some)
+    (owes_rightly c.start.new.self)
+
+pub returns-in-Unwritten-clause-moves : goal.returns-in-Unwritten-clause-moves
+returns-in-Unwritten-clause-moves g c =
+    let saying : place_as c.args.self.now.at ≡ state.Answering = sym c.state_at.ensures ∙ c.in-Answering.is in
+    let may = may_write (shows c.args.self.now) (g.L.Link.seen c.args.link.now) c.args.left.now c.if-left-eq0.false c.if-left-eq0-2.false in
+    want_makes (shows c.args.self.now) (shows c.say.new.self) (g.L.Link.seen c.args.link.now) (g.L.Link.seen c.say.new.link) c.args.left.now
+    c.in-Unwritten.ensures.once saying may (owes_rightly c.say.new.self)
+
+pub returns-in-Wrote-clause-moves : goal.returns-in-Wrote-clause-moves
+returns-in-Wrote-clause-moves g c =
+    let saying : place_as c.args.self.now.at ≡ state.Answering = sym c.state_at.ensures ∙ c.in-Answering.is in
+    let may = may_write (shows c.args.self.now) (g.L.Link.seen c.args.link.now) c.args.left.now c.if-left-eq0.false c.if-left-eq0-2.false in
+    let once = c.in-Wrote.ensures.once in
+    write_makes once.0 (shows c.args.self.now) (shows c.say.new.self) (g.L.Link.seen c.args.link.now) (g.L.Link.seen c.say.new.link) c.args.left.now
+    false once.1 once.2 saying may (owes_rightly c.say.new.self)
+
+pub returns-in-Waits-clause-moves : goal.returns-in-Waits-clause-moves
+returns-in-Waits-clause-moves g c =
+    let saying : place_as c.args.self.now.at ≡ state.Answering = sym c.state_at.ensures ∙ c.in-Answering.is in
+    let may = may_write (shows c.args.self.now) (g.L.Link.seen c.args.link.now) c.args.left.now c.if-left-eq0.false c.if-left-eq0-2.false in
+    write_makes write.NotYet (shows c.args.self.now) (shows c.say.new.self) (g.L.Link.seen c.args.link.now) (g.L.Link.seen c.say.new.link) c.args.left.now
+    true refl c.in-Waits.ensures.once saying may (owes_rightly c.say.new.self)

@@ -1,6 +1,9 @@
-use Rattle.std.proofs.Common.{◌≡◌, ◌+◌, ◌-◌, ◌≤◌, ltb, refl, arith, ap, ◌∙◌}
+use Rattle.std.proofs.Common.{◌≡◌, ◌+◌, ◌≤◌, false, ltb, refl, arith, ap, ◌∙◌}
 use Rattle.conn_core.specs.declared.left.Left.{Left}
+use Rattle.conn_core.specs.Inner.{left_at}
 use Rattle.conn_core.specs.Shown.{shows, replied_at}
+use Rattle.conn_core.proofs.MoveLemmas.{owes_rightly}
+use Rattle.conn_core.proofs.MovingLemmas.{full, moving_start, moving_step, moving_end}
 use Rattle.conn_core.proofs.RetellLemmas.{more_runs}
 use Rattle.conn_core.proofs.TurnLemmas.{turning_start, turning_step, turning_end, step_stops, risen, tells_same}
 use Rattle.conn_core.proofs.inside.Inside.turn.Goals as goal
@@ -11,6 +14,8 @@ loop-self-init g c = record {
   any = λ V T h. c.start.ensures.any V T (g.L.Link.seen c.args.link.now) h;
   turning = turning_start (shows c.args.self.now) (shows c.start.new.self) (g.L.Link.seen c.args.link.now) c.new-left.result c.start.new.left
       c.new-left.ensures c.start.ensures.starts c.start.ensures.left c.start.ensures.few;
+  moving = moving_start (shows c.args.self.now) (shows c.start.new.self) (g.L.Link.seen c.args.link.now) c.new-left.result c.start.new.left
+      c.new-left.ensures c.start.ensures.takes c.start.ensures.left c.start.ensures.few c.requires.ready (owes_rightly c.start.new.self);
   counts = c.start.ensures.counts ∙ ap (λ (l : Left). g.R.Runner.runs c.args.runner.now + l.runs) c.new-left.ensures;
   steady = c.start.ensures.steady;
 }
@@ -37,6 +42,9 @@ loop-self-preserved g c =
           grew (i.any V T h) (λ U u. c.step.ensures.any V U u);
       turning = turning_step (shows c.args.self.now) (shows c.loop-self.self) (shows c.step.new.self) (g.L.Link.seen c.args.link.now)
           (g.L.Link.seen c.loop-self.link) (g.L.Link.seen c.step.new.link) c.loop-self.left c.step.new.left i.turning c.step.ensures.steps;
+      moving = moving_step (left_at (shows c.args.self.now) (g.L.Link.seen c.args.link.now) full false)
+          (left_at (shows c.loop-self.self) (g.L.Link.seen c.loop-self.link) c.loop-self.left false)
+          (left_at (shows c.step.new.self) (g.L.Link.seen c.step.new.link) c.step.new.left false) i.moving c.in-GoesOn.ensures.moves;
       counts = counts;
       steady = λ e ps input. c.step.ensures.steady e ps input ∙ i.steady e ps input;
     }
@@ -58,8 +66,11 @@ returns-in-Waits-clause-turns g c =
     (g.L.Link.seen c.loop-self.link) (g.L.Link.seen c.step.new.link) c.in-Waits.is c.step.ensures.leaves i.turning.moved.waits in
     let got = risen c.replied_at-replied.result c.replied_at.result (replied_at c.args.self.now.at c.args.self.now.calls)
     (replied_at c.step.new.self.at c.step.new.self.calls) c.replied_at-replied.ensures c.replied_at.ensures in
+    let made = moving_end c.step.result (shows c.args.self.now) (shows c.loop-self.self) (shows c.step.new.self) (g.L.Link.seen c.args.link.now)
+    (g.L.Link.seen c.loop-self.link) (g.L.Link.seen c.step.new.link) c.loop-self.left c.step.new.left c.in-Waits.is turning.few i.moving
+    c.step.ensures.moves in
     turning_end c.step.new.self.at (shows c.args.self.now) (shows c.step.new.self) (g.L.Link.seen c.args.link.now) (g.L.Link.seen c.step.new.link)
-    c.step.new.left (ltb c.replied_at-replied.result c.replied_at.result) turning refl got stopped c.turned.result c.turned.ensures
+    c.step.new.left (ltb c.replied_at-replied.result c.replied_at.result) turning refl got stopped c.turned.result c.turned.ensures made
 
 pub returns-in-Waits-clause-counts : goal.returns-in-Waits-clause-counts
 returns-in-Waits-clause-counts g c =

@@ -1,11 +1,12 @@
-use Rattle.std.proofs.Common.{◌≡◌, ◌+◌, ℕ, List, true}
+use Rattle.std.proofs.Common.{◌≡◌, ◌+◌, ℕ, List, true, false}
 use Rattle.rack_types.specs.Env.{Pairs}
 use Rattle.talk_core.specs.Tail.{Voice}
 use Rattle.talk_core.specs.Teller.{Teller}
 use Rattle.conn_core.specs.Holds.{HoldsBy}
-use Rattle.conn_core.specs.Inner.{TellsBy, work}
+use Rattle.conn_core.specs.Inner.{TellsBy, left_at, work}
 use Rattle.conn_core.specs.Runs.{RunsBy}
 use Rattle.conn_core.specs.Shown.{shows}
+use Rattle.conn_core.proofs.MovingLemmas.{full, Moving}
 use Rattle.conn_core.proofs.TurnLemmas.{Turning}
 use Rattle.conn_core.proofs.inside.Inside.turn.Given as goal
 
@@ -17,6 +18,7 @@ invariant-loop-self g l = record {
   any : (V : Voice g.row.H.Denot) (T : Teller g.row.H.Denot) → HoldsBy V T (g.L.Link.seen l.fn.link) l.fn.self
       → RunsBy V T l.fn.self.calls (g.L.Link.seen l.link) l.self;
   turning : Turning (shows l.fn.self) (shows l.self) (g.L.Link.seen l.fn.link) (g.L.Link.seen l.link) l.left;
+  moving : Moving (left_at (shows l.fn.self) (g.L.Link.seen l.fn.link) full false) (left_at (shows l.self) (g.L.Link.seen l.link) l.left false);
   counts : g.R.Runner.runs l.runner + l.left.runs ≡ g.R.Runner.runs l.fn.runner + 10;
   steady : g.R.Runner.steady ≡ true → (ps : Pairs) (input : List ℕ) → g.R.Runner.answer l.runner ps input ≡ g.R.Runner.answer l.fn.runner ps input;
 }

@@ -1,21 +1,21 @@
-use Rattle.std.proofs.Common.{◌≡◌, ◌<◌, ◌≤◌, ◌==◌, ℕ, List, [], length, true, false, refl, sym, ap, subst, ◌∙◌, arith}
+use Rattle.std.proofs.Common.{◌≡◌, ◌≤◌, ℕ, List, [], length, take, refl, sym, ap, subst, ◌∙◌, arith}
 use Rattle.std.proofs.lemmas.Bool.Decides.{nat_tests}
 use Rattle.std.proofs.lemmas.List.{nil_from_length}
-use Rattle.rack_outside.specs.Link.{Seen}
+use Rattle.rack_outside.specs.declared.link.LinkWrite.TheVariants as write
 use Rattle.talk_core.specs.declared.ended.Why.TheVariants as why
 use Rattle.conn_core.specs.declared.place.At.{At}
 use Rattle.conn_core.specs.declared.place.At.TheVariants as at
-use Rattle.conn_core.specs.declared.state.State.TheVariants as state
-use Rattle.conn_core.specs.Calls.{TurnEnds, IsOfFlush}
-use Rattle.conn_core.specs.Holds.{kept, StandsAt}
-use Rattle.conn_core.specs.Inner.{SaysOn}
+use Rattle.conn_core.specs.Holds.{kept}
+use Rattle.conn_core.specs.Moves.{ring_room}
 use Rattle.conn_core.specs.Place.{state_at}
-use Rattle.conn_core.specs.Shown.{shows, replied_at, owed_at, why_at}
+use Rattle.conn_core.specs.Shown.{owed_at, why_at}
 use Rattle.conn_core.specs.Steps.{CompletesTo}
 use Rattle.conn_core.proofs.CompleteLemmas.{completes_hold}
 use Rattle.conn_core.proofs.PlaceLemmas.{stands_place}
 use Rattle.conn_core.proofs.SaidLemmas.{moved_by_write, filled_says, filled_ring, filled_state, SaidShown, said_on, said_over, said_whole, waiting_shown}
-use Rattle.conn_core.proofs.SayLemmas.{took, untaken, write_failed, write_lacks, with_ring}
+use Rattle.conn_core.proofs.SayLemmas.{took, write_failed, with_ring}
+use Rattle.conn_core.proofs.MoveLemmas.{fills_front, owed_left, filled_shown, took_on, TookAll, took_all}
+use Rattle.conn_core.proofs.SaysLemmas.{wrote_once}
 use Rattle.conn_core.proofs.inside.Inside.write.Goals as goal
 
 pub returns-then-is_empty-clause-holds : goal.returns-then-is_empty-clause-holds
@@ -154,3 +154,93 @@ returns-in-NoMemory-clause-says g c =
       ends = shown.ends;
       leaves = shown.less;
     }
+
+pub returns-then-is_empty-clause-once : goal.returns-then-is_empty-clause-once
+returns-then-is_empty-clause-once g c =
+    let s = g.L.Link.seen c.args.link.now in
+    let s' = g.L.Link.seen c.send.new.link in
+    let p = c.args.self.now in
+    let e = c.in-Took.ensures in
+    let few : length p.ring.items ≤ ring_room = omega (arith, e.within, p.room) in
+    let front : p.ring.items ≡ take ring_room (owed_at p.at p.ring.items) = fills_front p.at p.ring.items c.requires few in
+    let n = c.in-Took.field-0 in
+    let none : c.send.new.ring.items ≡ [] =
+    nil_from_length c.send.new.ring.items (grind (arith, nat_tests, c.is_empty.ensures, c.if-is_empty.true)) in
+    let completes : CompletesTo p.at p.intake p.held c.complete-at.result c.complete-at.new.intake c.complete-at.new.held =
+    subst (λ (a : At g.row.B.Denot g.row.H.Denot). CompletesTo a p.intake p.held c.complete-at.result c.complete-at.new.intake c.complete-at.new.held)
+    c.replace-at.ensures.value c.complete-at.ensures in
+    let all : TookAll p.at c.put.new.at p.ring.items p.calls n =
+    subst (λ (b : At g.row.B.Denot g.row.H.Denot). TookAll p.at b p.ring.items p.calls n) (sym c.put.ensures)
+    (took_all p.at c.complete-at.result p.ring.items p.calls n p.intake c.complete-at.new.intake p.held c.complete-at.new.held completes c.requires
+    p.rests (sym none ∙ e.off) e.writes.1) in (
+      write.Took n,
+      refl,
+      wrote_once (write.Took n) _ _ s s' p.ring.items front e.writes e.keeps e.ahead (record { peer = refl; local = refl; lives = refl; taken = refl })
+          refl (ap (λ (x : List ℕ). owed_at c.put.new.at x) none ∙ all.owed, all.to),
+    )
+
+pub returns-else-is_empty-clause-once : goal.returns-else-is_empty-clause-once
+returns-else-is_empty-clause-once g c =
+    let s = g.L.Link.seen c.args.link.now in
+    let s' = g.L.Link.seen c.send.new.link in
+    let p = c.args.self.now in
+    let e = c.in-Took.ensures in
+    let few : length p.ring.items ≤ ring_room = omega (arith, e.within, p.room) in
+    let front : p.ring.items ≡ take ring_room (owed_at p.at p.ring.items) = fills_front p.at p.ring.items c.requires few in
+    let n = c.in-Took.field-0 in (
+      write.Took n,
+      refl,
+      wrote_once (write.Took n) _ _ s s' p.ring.items front e.writes e.keeps e.ahead (record { peer = refl; local = refl; lives = refl; taken = refl })
+          refl (
+            owed_left p.at p.ring.items c.send.new.ring.items n c.requires e.off e.writes.1,
+            took_on p.at p.ring.items p.calls c.requires,
+          ),
+    )
+
+pub returns-in-NotYet-clause-once : goal.returns-in-NotYet-clause-once
+returns-in-NotYet-clause-once g c =
+    let s = g.L.Link.seen c.args.link.now in
+    let s' = g.L.Link.seen c.send.new.link in
+    let p = c.args.self.now in
+    let e = c.in-NotYet.ensures in
+    let few : length p.ring.items ≤ ring_room = omega (arith, e.within, p.room) in
+    let front : p.ring.items ≡ take ring_room (owed_at p.at p.ring.items) = fills_front p.at p.ring.items c.requires few in
+    let is = filled_shown p.at p.ring.items c.requires in
+    wrote_once write.NotYet _ _ s s' p.ring.items front e.writes e.keeps e.ahead (record { peer = refl; local = refl; lives = refl; taken = refl })
+    refl (ap (λ (x : List ℕ). owed_at p.at x) e.off, is.0, is.1, refl)
+
+pub returns-in-Failed-clause-once : goal.returns-in-Failed-clause-once
+returns-in-Failed-clause-once g c =
+    let s = g.L.Link.seen c.args.link.now in
+    let s' = g.L.Link.seen c.send.new.link in
+    let p = c.args.self.now in
+    let e = c.in-Failed.ensures in
+    let few : length p.ring.items ≤ ring_room = omega (arith, e.within, p.room) in
+    let front : p.ring.items ≡ take ring_room (owed_at p.at p.ring.items) = fills_front p.at p.ring.items c.requires few in
+    let place : c.put-in-Failed.new.at ≡ at.Over why.WriteFailed = c.put-in-Failed.ensures in (
+      write.Failed,
+      refl,
+      wrote_once write.Failed _ _ s s' p.ring.items front e.writes e.keeps e.ahead (record { peer = refl; local = refl; lives = refl; taken = refl })
+          refl (
+            ap (λ (a : At g.row.B.Denot g.row.H.Denot). state_at a) place,
+            ap (λ (a : At g.row.B.Denot g.row.H.Denot). why_at a) place,
+          ),
+    )
+
+pub returns-in-NoMemory-clause-once : goal.returns-in-NoMemory-clause-once
+returns-in-NoMemory-clause-once g c =
+    let s = g.L.Link.seen c.args.link.now in
+    let s' = g.L.Link.seen c.send.new.link in
+    let p = c.args.self.now in
+    let e = c.in-NoMemory.ensures in
+    let few : length p.ring.items ≤ ring_room = omega (arith, e.within, p.room) in
+    let front : p.ring.items ≡ take ring_room (owed_at p.at p.ring.items) = fills_front p.at p.ring.items c.requires few in
+    let place : c.put-in-NoMemory.new.at ≡ at.Over why.NoMemory = c.put-in-NoMemory.ensures in (
+      write.NoMemory,
+      refl,
+      wrote_once write.NoMemory _ _ s s' p.ring.items front e.writes e.keeps e.ahead (record { peer = refl; local = refl; lives = refl; taken = refl })
+          refl (
+            ap (λ (a : At g.row.B.Denot g.row.H.Denot). state_at a) place,
+            ap (λ (a : At g.row.B.Denot g.row.H.Denot). why_at a) place,
+          ),
+    )

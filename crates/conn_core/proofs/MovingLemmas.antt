@@ -1,0 +1,217 @@
+-- The steps of a turn and of a flush as moves, and all moves of a call, one behind the other.
+use Rattle.std.proofs.Common.{◌≡◌, ◌≢◌, ℕ, ◌+◌, ◌-◌, ◌<◌, ◌≤◌, Bool, true, false, List, [], ◌∷◌, ◌++◌, refl, sym, ap, subst, ◌∙◌, arith, ◌⊎◌, inl, inr}
+use Rattle.rack_outside.specs.Link.{Seen}
+use Rattle.rack_outside.specs.declared.link.LinkRead.{LinkRead}
+use Rattle.rack_outside.specs.declared.link.LinkRead.TheVariants as read
+use Rattle.rack_outside.specs.declared.link.LinkWrite.{LinkWrite}
+use Rattle.conn_core.specs.declared.left.Left.{Left}
+use Rattle.conn_core.specs.declared.left.Said.TheVariants as said
+use Rattle.conn_core.specs.declared.left.Step.{Step}
+use Rattle.conn_core.specs.declared.left.Step.TheVariants as step
+use Rattle.conn_core.specs.declared.state.State.{State}
+use Rattle.conn_core.specs.declared.state.State.TheVariants as state
+use Rattle.conn_core.specs.Inner.{IsSpentLeft, TakesUp, SaysOnce, left_at, MadeTo, StepMoves}
+use Rattle.conn_core.specs.Moves.{Starts, WantsMemory, read_waits, ReadsOnce, write_waits, WritesOnce, OwesRightly, Move, Moment, IsOpen, MayWrite, Spends, Goes, turn_at, StopsIn, TurnStops, flush_at, FlushStops}
+use Rattle.conn_core.specs.Moves.{Run, Refusal, Want, Read, Write}
+use Rattle.conn_core.specs.Shown.{Shown}
+use Rattle.conn_core.proofs.MoveLemmas.{goes_on}
+
+-- a turn may still run, read and write
+pub is_open : (o : Shown) (s : Seen) (l : Left) → (0 < l.runs) × (0 < l.reads) × (0 < l.writes) → IsOpen (left_at o s l false)
+is_open o s l some = record { runs = some.0; reads = some.1; writes = some.2; unwaited = refl }
+
+pub may_write : (o : Shown) (s : Seen) (l : Left) → l.reads ≢ 0 → l.writes ≢ 0 → MayWrite (left_at o s l false)
+may_write o s l reads writes =
+    let some : 0 < l.reads = omega (arith, reads) in
+    let more : 0 < l.writes = omega (arith, writes) in
+    record { reads = some; writes = more; unwaited = refl }
+
+-- memory was refused before a run
+pub wants_memory : (o n : Shown) → Starts 0 o n → n.state ≡ state.Over → WantsMemory o n
+wants_memory o n h over =
+    let calls : n.calls ≡ o.calls = omega (arith, h.calls) in
+    elim h.place [
+      | inl p ↦ let saying : n.state ≡ state.Answering = p.0 in cc
+      | inr p ↦ record { same = h.same; calls = calls; state = over; why = p.1 }
+    ]
+
+-- what a turn spends on taking up what stands
+takes : (o n : Shown) (s : Seen) (l m : Left) (k : ℕ) → l.runs - m.runs ≡ k → m ≡ record l { runs = m.runs } → m.runs ≤ l.runs
+    → Spends k 0 0 false (left_at o s l false) (left_at n s m false)
+takes o n s l m k by is few =
+    let same_reads : m.reads ≡ l.reads = ap (λ (x : Left). x.reads) is in
+    let same_writes : m.writes ≡ l.writes = ap (λ (x : Left). x.writes) is in
+    let runs : l.runs ≡ m.runs + k = omega (arith, by, few) in
+    let reads : l.reads ≡ m.reads + 0 = omega (arith, same_reads) in
+    let writes : l.writes ≡ m.writes + 0 = omega (arith, same_writes) in
+    record { runs_are = runs; reads_are = reads; writes_are = writes; waits_is = refl }
+
+pub takes_makes : (o n : Shown) (s : Seen) (l m : Left) → TakesUp (l.runs - m.runs) o n → m ≡ record l { runs = m.runs } → m.runs ≤ l.runs
+    → o.state ≡ state.Ready → IsOpen (left_at o s l false) → OwesRightly n → MadeTo (left_at o s l false) (left_at n s m false)
+takes_makes o n s l m up is few ready may owes =
+    elim up [
+      | inl run ↦ (Run, (ready, may, takes o n s l m 1 run.0 is few, refl, run.1), owes)
+      | inr none ↦ elim none.1 [
+        | inl names ↦ (Refusal, (ready, may, takes o n s l m 0 none.0 is few, refl, names), owes)
+        | inr wants ↦ (Want, (inl (ready, may), takes o n s l m 0 none.0 is few, refl, wants), owes)
+      ]
+    ]
+
+-- a read by which the connection ended had not to wait
+pub ended_read : (a : LinkRead) → (a ≡ read.End) ⊎ (a ≡ read.Failed) → read_waits a ≡ false
+ended_read (read.Bytes n) e = refl
+ended_read read.NotYet e = elim e [ inl x ↦ cc | inr x ↦ cc ]
+ended_read read.End e = refl
+ended_read read.Failed e = refl
+
+pub read_makes : (a : LinkRead) (o n : Shown) (s u : Seen) (l : Left) (came : ℕ) (w : Bool) → read_waits a ≡ w → ReadsOnce a o n s u
+    → o.state ≡ state.Reading → (0 < l.runs) × (0 < l.reads) × (0 < l.writes) → OwesRightly n
+    → MadeTo (left_at o s l false) (left_at n u (record { runs = l.runs; reads = l.reads - 1; writes = l.writes; came = came }) w)
+read_makes a o n s u l came w waits once reading some owes =
+    let runs : l.runs ≡ l.runs + 0 = omega arith in
+    let reads : l.reads ≡ (l.reads - 1) + 1 = omega (arith, some.1) in
+    let writes : l.writes ≡ l.writes + 0 = omega arith in
+    (Read a, (reading, is_open o s l some, record { runs_are = runs; reads_are = reads; writes_are = writes; waits_is = sym waits }, once), owes)
+
+-- memory was refused before a write
+pub want_makes : (o n : Shown) (s u : Seen) (l : Left) → SaysOnce said.Unwritten o n s u → o.state ≡ state.Answering → MayWrite (left_at o s l false)
+    → OwesRightly n → MadeTo (left_at o s l false) (left_at n u l false)
+want_makes o n s u l h saying may owes =
+    let runs : l.runs ≡ l.runs + 0 = omega arith in
+    let reads : l.reads ≡ l.reads + 0 = omega arith in
+    let writes : l.writes ≡ l.writes + 0 = omega arith in
+    (Want, (inr (saying, may), record { runs_are = runs; reads_are = reads; writes_are = writes; waits_is = refl }, h.0, h.1), owes)
+
+pub write_makes : (a : LinkWrite) (o n : Shown) (s u : Seen) (l : Left) (w : Bool) → write_waits a ≡ w → WritesOnce a o n s u
+    → o.state ≡ state.Answering → MayWrite (left_at o s l false) → OwesRightly n
+    → MadeTo (left_at o s l false) (left_at n u (record { runs = l.runs; reads = l.reads; writes = l.writes - 1; came = l.came }) w)
+write_makes a o n s u l w waits once saying may owes =
+    let runs : l.runs ≡ l.runs + 0 = omega arith in
+    let reads : l.reads ≡ l.reads + 0 = omega arith in
+    let writes : l.writes ≡ (l.writes - 1) + 1 = omega (arith, may.writes) in
+    (Write a, (saying, may, record { runs_are = runs; reads_are = reads; writes_are = writes; waits_is = sym waits }, once), owes)
+
+-- why a turn stops, by what is left
+pub over_stops : (n : Shown) (s : Seen) (l : Left) → (n.state ≡ state.Over) ⊎ (n.state ≡ state.Hijacked) → TurnStops (left_at n s l false)
+over_stops n s l e =
+    elim e [
+      | inl over ↦ inr (subst (λ (b : State). StopsIn b (left_at n s l false)) (sym over) tt)
+      | inr held ↦ inr (subst (λ (b : State). StopsIn b (left_at n s l false)) (sym held) tt)
+    ]
+
+pub spent_stops : (n : Shown) (s : Seen) (l : Left) → (n.state ≡ state.Reading) ⊎ (n.state ≡ state.Ready) → IsSpentLeft l
+    → TurnStops (left_at n s l false)
+spent_stops n s l e spent =
+    elim e [
+      | inl reading ↦ inr (subst (λ (b : State). StopsIn b (left_at n s l false)) (sym reading) spent)
+      | inr ready ↦ inr (subst (λ (b : State). StopsIn b (left_at n s l false)) (sym ready) spent)
+    ]
+
+pub unwritten_stops : (n : Shown) (s : Seen) (l : Left) → n.state ≡ state.Answering → (l.reads ≡ 0) ⊎ (l.writes ≡ 0) → TurnStops (left_at n s l false)
+unwritten_stops n s l saying none = inr (subst (λ (b : State). StopsIn b (left_at n s l false)) (sym saying) none)
+
+-- the moves so far
+pub record Moving (first now : Moment) : Type 0 where
+  pub moves : List Move
+  pub made : Goes moves first now
+
+pub moving_none : (m : Moment) → Moving m m
+moving_none m = record { moves = []; made = refl }
+
+pub moving_step : (first m n : Moment) → Moving first m → MadeTo m n → Moving first n
+moving_step first m n h k = record { moves = h.moves ++ k.0 ∷ []; made = goes_on h.moves k.0 first m n h.made k.1 k.2 }
+
+-- what a turn may do
+abbrev pub full : Left
+full = record { runs = 10; reads = 160; writes = 160; came = 0 }
+
+full_open : (o : Shown) (s : Seen) → IsOpen (left_at o s full false)
+full_open o s =
+    let ten : 0 < 10 = omega arith in
+    let many : 0 < 160 = omega arith in
+    record { runs = ten; reads = many; writes = many; unwaited = refl }
+
+-- the first move of a turn
+pub moving_start : (o n : Shown) (s : Seen) (f l : Left) → f ≡ full → TakesUp (f.runs - l.runs) o n → l ≡ record f { runs = l.runs } → l.runs ≤ f.runs
+    → o.state ≡ state.Ready → OwesRightly n → Moving (left_at o s full false) (left_at n s l false)
+moving_start o n s f l all up is few ready owes =
+    let made : MadeTo (left_at o s f false) (left_at n s l false) =
+    takes_makes o n s f l up is few ready (subst (λ (x : Left). IsOpen (left_at o s x false)) (sym all) (full_open o s)) owes in
+    moving_step (left_at o s full false) (left_at o s full false) (left_at n s l false) (moving_none (left_at o s full false))
+    (subst (λ (x : Left). MadeTo (left_at o s x false) (left_at n s l false)) all made)
+
+-- all moves of a turn
+pub record TurnMade (o n : Shown) (s u : Seen) (runs reads writes : ℕ) : Type 0 where
+  pub moves : List Move
+  pub waited : Bool
+  pub made : Goes moves (turn_at o s 0 0 0 false) (turn_at n u runs reads writes waited)
+  pub stops : TurnStops (turn_at n u runs reads writes waited)
+
+-- what is left, by what was made
+turn_moment : (n : Shown) (u : Seen) (l : Left) (w : Bool) → (l.runs ≤ 10) × (l.reads ≤ 160) × (l.writes ≤ 160)
+    → left_at n u l w ≡ turn_at n u (10 - l.runs) (160 - l.reads) (160 - l.writes) w
+turn_moment n u l w few =
+    let runs : l.runs ≡ 10 - (10 - l.runs) = omega (arith, few.0) in
+    let reads : l.reads ≡ 160 - (160 - l.reads) = omega (arith, few.1) in
+    let writes : l.writes ≡ 160 - (160 - l.writes) = omega (arith, few.2) in
+    ap (λ (x : ℕ). record { shown = n; seen = u; runs = x; reads = l.reads; writes = l.writes; waited = w }) runs
+    ∙ ap (λ (x : ℕ). record { shown = n; seen = u; runs = 10 - (10 - l.runs); reads = x; writes = l.writes; waited = w }) reads
+    ∙ ap (λ (x : ℕ). record { shown = n; seen = u; runs = 10 - (10 - l.runs); reads = 160 - (160 - l.reads); writes = x; waited = w }) writes
+
+turn_made : (o n : Shown) (s u : Seen) (l : Left) (w : Bool) → (l.runs ≤ 10) × (l.reads ≤ 160) × (l.writes ≤ 160)
+    → Moving (left_at o s full false) (left_at n u l w) → TurnStops (left_at n u l w) → TurnMade o n s u (10 - l.runs) (160 - l.reads) (160 - l.writes)
+turn_made o n s u l w few h stops =
+    let is = turn_moment n u l w few in
+    record {
+      moves = h.moves;
+      waited = w;
+      made = subst (λ (m : Moment). Goes h.moves (left_at o s full false) m) is h.made;
+      stops = subst TurnStops is stops;
+    }
+
+-- its last step
+pub moving_end : (r : Step) (o m n : Shown) (s t u : Seen) (l k : Left) → (r ≡ step.Waits) ⊎ (r ≡ step.Stops)
+    → (k.runs ≤ 10) × (k.reads ≤ 160) × (k.writes ≤ 160) → Moving (left_at o s full false) (left_at m t l false) → StepMoves r m n t u l k
+    → TurnMade o n s u (10 - k.runs) (160 - k.reads) (160 - k.writes)
+moving_end step.GoesOn o m n s t u l k e few h p = elim e [ inl x ↦ cc | inr x ↦ cc ]
+moving_end step.Waits o m n s t u l k e few h p =
+    turn_made o n s u k true few (moving_step (left_at o s full false) (left_at m t l false) (left_at n u k true) h p) (inl refl)
+moving_end step.Stops o m n s t u l k e few h p =
+    let same : left_at m t l false ≡ left_at n u k false =
+    ap (λ (x : Shown). left_at x t l false) (sym p.0) ∙ ap (λ (x : Seen). left_at n x l false) (sym p.1) ∙ ap (λ (x : Left). left_at n u x false) (sym p.2) in
+    turn_made o n s u k false few (subst (λ (x : Moment). Moving (left_at o s full false) x) same h) p.3
+
+-- all moves of a flush
+pub record FlushMade (o n : Shown) (s u : Seen) (writes : ℕ) : Type 0 where
+  pub moves : List Move
+  pub waited : Bool
+  pub made : Goes moves (flush_at o s 0 false) (flush_at n u writes waited)
+  pub stops : FlushStops (flush_at n u writes waited)
+
+flush_may : (o : Shown) (s : Seen) (x : ℕ) → x < 16 → MayWrite (flush_at o s x false)
+flush_may o s x few =
+    let one : 0 < 1 = omega arith in
+    let some : 0 < 16 - x = omega (arith, few) in
+    record { reads = one; writes = some; unwaited = refl }
+
+-- one write of a flush
+pub flush_moving_step : (a : LinkWrite) (first : Moment) (m n : Shown) (t u : Seen) (x : ℕ) (w : Bool) → write_waits a ≡ w → WritesOnce a m n t u
+    → m.state ≡ state.Answering → x < 16 → OwesRightly n → Moving first (flush_at m t x false) → Moving first (flush_at n u (x + 1) w)
+flush_moving_step a first m n t u x w waits once saying few owes h =
+    let writes : 16 - x ≡ (16 - (x + 1)) + 1 = omega (arith, few) in
+    let spends : Spends 0 0 1 (write_waits a) (flush_at m t x false) (flush_at n u (x + 1) w) =
+    record { runs_are = refl; reads_are = refl; writes_are = writes; waits_is = sym waits } in
+    moving_step first (flush_at m t x false) (flush_at n u (x + 1) w) h (Write a, (saying, flush_may m t x few, spends, once), owes)
+
+-- memory was refused in a flush
+pub flush_wants : (first : Moment) (m n : Shown) (t u : Seen) (x : ℕ) → SaysOnce said.Unwritten m n t u
+    → m.state ≡ state.Answering → x < 16 → OwesRightly n → Moving first (flush_at m t x false) → Moving first (flush_at n u x false)
+flush_wants first m n t u x says saying few owes h =
+    let writes : 16 - x ≡ (16 - x) + 0 = omega arith in
+    let spends : Spends 0 0 0 false (flush_at m t x false) (flush_at n u x false) =
+    record { runs_are = refl; reads_are = refl; writes_are = writes; waits_is = refl } in
+    moving_step first (flush_at m t x false) (flush_at n u x false) h (Want, (inr (saying, flush_may m t x few), spends, says.0, says.1), owes)
+
+pub flush_made : (o n : Shown) (s u : Seen) (x : ℕ) (w : Bool) → Moving (flush_at o s 0 false) (flush_at n u x w) → FlushStops (flush_at n u x w)
+    → FlushMade o n s u x
+flush_made o n s u x w h stops = record { moves = h.moves; waited = w; made = h.made; stops = stops }

@@ -1,0 +1,135 @@
+// What main answers itself: the program's help, and its version.
+use std::io;
+use std::io::Write;
+
+/// What the words ask of the program itself.
+#[derive(Clone, Copy, Debug, PartialEq, Eq)]
+pub enum Asked {
+    /// What the program is and how it is used.
+    Help,
+    /// Its version.
+    Version,
+}
+
+/// What the words ask of the program itself, where they do: one of `--help`, `-h`, `help`, `--version` and
+/// `-V`, alone or behind a command's name.
+pub fn asked(words: &[String]) -> Option<Asked> {
+    match words {
+        [word] => asked_by(word.as_str()),
+        [command, word] if is_command(command.as_str()) => asked_by(word.as_str()),
+        _ => None,
+    }
+}
+
+fn asked_by(word: &str) -> Option<Asked> {
+    match word {
+        "--help" | "-h" | "help" => Some(Asked::Help),
+        "--version" | "-V" => Some(Asked::Version),
+        _ => None,
+    }
+}
+
+fn is_command(word: &str) -> bool {
+    word == "once" || word == "check"
+}
+
+/// Writes what was asked for, all of it.
+pub fn answer<W: Write>(asked: Asked, out: &mut W) -> io::Result<()> {
+    let text = match asked {
+        Asked::Help => HELP,
+        Asked::Version => VERSION,
+    };
+    out.write_all(text.as_bytes())
+}
+
+const VERSION: &str = "puma 0.1.0\n";
+
+const HELP: &str = "puma - an HTTP/1.1 application server after Puma and the Rack 3 SPEC.\n\
+It answers requests by a stack of middleware and endpoints from a stack file.\n\
+\n\
+Usage:\n\
+\x20 puma once [--no-hijack] STACK    serve one connection\n\
+\x20 puma check STACK                 print a stack file in its written form\n\
+\x20 puma --help                      print this text; also -h, help\n\
+\x20 puma --version                   print the version; also -V\n\
+\n\
+puma once [--no-hijack] STACK\n\
+\x20 Requests come on standard input, kept and pipelined ones too, and the\n\
+\x20 replies go to standard output, until the connection ends.\n\
+\x20   STACK         the name of a stack file\n\
+\x20   --no-hijack   the environment says rack.hijack?=false (default: true)\n\
+\x20 The peer is 127.0.0.1, the local side is localhost, port 9292.\n\
+\x20 Example:  bin/puma once examples/hello.stack < examples/get.http\n\
+\n\
+puma check STACK\n\
+\x20 Prints one line for each step and each end, without comments; or which line\n\
+\x20 is the first that breaks a rule, and which rule. It has no flags.\n\
+\x20   STACK         the name of a stack file\n\
+\x20 Example:  bin/puma check examples/everything.stack\n\
+\n\
+Flags may stand before or behind STACK, and what follows -- is no flag. --help\n\
+and its kin answer behind once and check too; a stack file that is called help\n\
+is named ./help.\n\
+\n\
+A stack file, of at most 65,536 bytes:\n\
+\x20 # A comment. The first use is the outermost.\n\
+\x20 use head\n\
+\x20 use set_header x-served-by puma\n\
+\x20 map /inbox\n\
+\x20   run echo\n\
+\x20 end\n\
+\x20 map /about\n\
+\x20   run text 200 text/plain written\\sin\\sRattle\\n\n\
+\x20 end\n\
+\x20 run text 200 text/plain hello\\n\n\
+\n\
+\x20 Middleware  head, content_length, content_type [TYPE], method_override,\n\
+\x20             set_header NAME VALUE, lint\n\
+\x20 Endpoints   text STATUS TYPE BODY, echo, env, pieces STATUS P.., stream P..,\n\
+\x20             cookies V.., late LENGTH P.., bad N.., raise TEXT\n\
+\x20 Blocks      map PLACE .. end, cascade .. end (only run lines inside)\n\
+\x20 Arguments   \\s is a space, \\n LF, \\r CR, \\\\ a backslash, \\x41 a byte, \\e\n\
+\x20             alone the empty text\n\
+\n\
+Exit statuses, each but 0 with one line on standard error:\n\
+\x20 0  done                         4  a line of the stack file breaks a rule\n\
+\x20 1  no memory                    6  a read of standard input failed\n\
+\x20 2  the words are no command     7  a write to standard output failed\n\
+\x20 3  the stack file is absent,    9  input too long: 2^40 bytes, and the\n\
+\x20    too long, or can't be read      connection isn't over\n\
+\n\
+Documents, in docs/ of the repository: STACKS.md has the stack file line by\n\
+line and each rule; DEFINITIONS.md has requests, refusals and replies.\n";
+
+#[cfg(test)]
+mod tests {
+    use super::*;
+    use std::test::Fail;
+
+    #[test]
+    fn asks_alone_or_behind_a_command(rt: HostRuntime) -> Result<(), Fail> {
+        for (line, wanted) in [
+            ("--help", Some(Asked::Help)),
+            ("-h", Some(Asked::Help)),
+            ("help", Some(Asked::Help)),
+            ("--version", Some(Asked::Version)),
+            ("-V", Some(Asked::Version)),
+            ("once --help", Some(Asked::Help)),
+            ("check -V", Some(Asked::Version)),
+            ("check help", Some(Asked::Help)),
+            ("serve --help", None),
+            ("--help once", None),
+            ("once stack --help", None),
+            ("once ./help", None),
+            ("check", None),
+            ("", None),
+        ] {
+            let mut words = Vec::new(rt.alloc());
+            for word in line.split(' ') {
+                words.push(String::from_str(rt.alloc(), word)?)?;
+            }
+            assert_eq!(rt; asked(&words), wanted);
+        }
+        Ok(())
+    }
+}
