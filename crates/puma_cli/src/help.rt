@@ -13,7 +13,7 @@ pub enum Asked {
 
 /// What the words ask of the program itself, where they do: one of `--help`, `-h`, `help`, `--version` and
 /// `-V`, alone or behind a command's name.
-pub fn asked(words: &[String]) -> Option<Asked> {
+pub fn asked_for(words: &[String]) -> Option<Asked> {
     match words {
         [word] => asked_by(word.as_str()),
         [command, word] if is_command(command.as_str()) => asked_by(word.as_str()),
@@ -128,7 +128,7 @@ mod tests {
             for word in line.split(' ') {
                 words.push(String::from_str(rt.alloc(), word)?)?;
             }
-            assert_eq!(rt; asked(&words), wanted);
+            assert_eq!(rt; asked_for(&words), wanted);
         }
         Ok(())
     }

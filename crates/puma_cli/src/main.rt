@@ -10,7 +10,7 @@ mod temporary;
 mod words;
 mod write_sink;
 
-use help::{answer, asked};
+use help::{answer, asked_for};
 use puma_top::{FileWhy, Status, run_quiet};
 use read_source::ReadSource;
 use real_files::RealFiles;
@@ -32,7 +32,7 @@ fn main(rt: HostRuntime) -> ExitCode {
 
 /// Answers what the words ask of the program itself, or else runs the command that they say.
 fn run(rt: &HostRuntime, words: &[String]) -> Status {
-    if let Some(asked) = asked(words) {
+    if let Some(asked) = asked_for(words) {
         return match answer(asked, &mut rt.stdout()) {
             Ok(()) => Status::Done,
             Err(_) => Status::SinkFault,
