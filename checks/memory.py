@@ -20,7 +20,7 @@ def check_memory(checks):
     write("most", lines + b"#\n" * ((FILE_LIMIT - len(lines)) // 2))
     write("env.stack", b"run env\n")
     write("pieces.stack", b"run pieces 200 " + b" ".join([b"ab"] * 1300) + b"\n")
-    write("places.stack", b"use method_override\nuse lint\nmap /a\n" + b"use set_header x-a 1\n" * 50 + b"end\n"
+    write("places.stack", b"use method_override\nuse lint\nmap /a\n" + b"use set_header x-a 1\n" * 20 + b"end\n"
           + b"map /b\ncascade\nrun text 404 a b\nrun env\nend\nend\nuse content_length\nuse content_type\nrun cookies a=1 b=2\n")
     asked = b"".join(GET.replace(b"/", place, 1) for place in (b"/", b"/a", b"/b/c"))
     put = post([b"Content-Type: application/x-www-form-urlencoded", LENGTH + b"11"], b"_method=put").replace(b"/", b"/b", 1)
