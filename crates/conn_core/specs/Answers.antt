@@ -6,9 +6,9 @@ use Rattle.conn_core.specs.declared.state.Next.{Next}
 use Rattle.conn_core.specs.declared.state.Next.TheVariants as next
 use Rattle.conn_core.specs.declared.state.State.TheVariants as state
 use Rattle.conn_core.specs.Inner.{IsSpentLeft}
-use Rattle.conn_core.specs.Place.{state_at}
+use Rattle.conn_core.specs.Place.{IsSaying, IsHearing, state_at}
 
--- behind a read that gave bytes
+-- behind a read that gave bytes or the peer's end
 abbrev pub FedSo : {B H : Type 0} → Next → At B H → Type 0
 FedSo {B} {H} next.Waiting a = ⊥
 FedSo {B} {H} next.More a = (state_at a ≢ state.Over) × (state_at a ≢ state.Ready)
@@ -24,10 +24,12 @@ TurnedSo {B} {H} next.Ready a left more = ⊥
 TurnedSo {B} {H} next.TurnOver a left more = (state_at a ≢ state.Over) × IsSpentLeft left
 TurnedSo {B} {H} next.Over a left more = state_at a ≡ state.Over
 
--- behind so many writes
-abbrev pub FlushedSo : {B H : Type 0} → Next → At B H → ℕ → Type 0
-FlushedSo {B} {H} next.Waiting a writes = (state_at a ≡ state.Answering) × (writes ≢ 16)
-FlushedSo {B} {H} next.More a writes = (state_at a ≡ state.Reading) × (writes ≢ 16)
-FlushedSo {B} {H} next.Ready a writes = (state_at a ≡ state.Ready) × (writes ≢ 16)
-FlushedSo {B} {H} next.TurnOver a writes = (state_at a ≢ state.Over) × (writes ≡ 16)
-FlushedSo {B} {H} next.Over a writes = state_at a ≡ state.Over
+-- behind so many writes, where the connection may have been handed to a hijacker
+abbrev pub FlushedSo : {B H : Type 0} → Next → At B H → ℕ → Bool → Type 0
+FlushedSo {B} {H} next.Waiting a writes handed =
+    ((state_at a ≡ state.Answering) ⊎ ((state_at a ≡ state.Hijacked) × IsSaying a × (handed ≡ false))) × (writes ≢ 16)
+FlushedSo {B} {H} next.More a writes handed =
+    ((state_at a ≡ state.Reading) ⊎ ((state_at a ≡ state.Hijacked) × (IsHearing a ⊎ (handed ≡ true)))) × (writes ≢ 16)
+FlushedSo {B} {H} next.Ready a writes handed = (state_at a ≡ state.Ready) × (writes ≢ 16)
+FlushedSo {B} {H} next.TurnOver a writes handed = (state_at a ≢ state.Over) × (writes ≡ 16)
+FlushedSo {B} {H} next.Over a writes handed = state_at a ≡ state.Over

@@ -3,6 +3,7 @@ use Rattle.std.specs.Prelude.{◌≡◌, ◌≢◌, ℕ, ◌+◌, ◌<◌, ◌�
 use Rattle.rack_outside.specs.Link.{Seen, marked}
 use Rattle.rack_outside.specs.Told.{Rose}
 use Rattle.rack_outside.specs.declared.link.LinkRead.{LinkRead}
+use Rattle.rack_outside.specs.declared.link.LinkRead.TheVariants as read
 use Rattle.talk_core.specs.declared.ended.Why.{Why}
 use Rattle.talk_core.specs.declared.ended.Why.TheVariants as why
 use Rattle.conn_core.specs.declared.state.Next.{Next}
@@ -26,14 +27,23 @@ TurnEnds (Some why.ReadFailed) s s' = (s'.over ≡ s.over) × Rose s.failed_read
 TurnEnds (Some why.WriteFailed) s s' = (s'.over ≡ s.over) × Rose s.failed_writes s'.failed_writes
 TurnEnds (Some (why.Halted level)) s s' = ⊥
 TurnEnds (Some why.NoMemory) s s' = s'.over ≡ s.over
-TurnEnds (Some why.Hijacked) s s' = ⊥
+TurnEnds (Some why.Hijacked) s s' = s'.over ≡ s.over
 
--- the same of a `feed`, which says nothing, and of a `flush`, which reads nothing
+-- what became of the link in a read that answered so: whether the peer ended changes only where the read told it, and
+-- a failure was counted
+abbrev pub FeedEnds : LinkRead → Seen → Seen → Type 0
+FeedEnds (read.Bytes n) s s' = s'.over ≡ s.over
+FeedEnds read.NotYet s s' = s'.over ≡ s.over
+FeedEnds read.End s s' = s'.over ≡ marked s.over
+FeedEnds read.Failed s s' = (s'.over ≡ s.over) × Rose s.failed_reads s'.failed_reads
+
+-- why a `feed` may end a connection, and why a `flush` may, which reads nothing
 abbrev pub IsOfFeed : Option Why → Type 0
 IsOfFeed None = ⊤
 IsOfFeed (Some why.PeerEnd) = ⊤
 IsOfFeed (Some why.ReadFailed) = ⊤
 IsOfFeed (Some why.NoMemory) = ⊤
+IsOfFeed (Some why.Hijacked) = ⊤
 IsOfFeed (Some ended) = ⊥
 
 abbrev pub IsOfFlush : Option Why → Type 0
@@ -41,15 +51,22 @@ IsOfFlush None = ⊤
 IsOfFlush (Some why.Closed) = ⊤
 IsOfFlush (Some why.WriteFailed) = ⊤
 IsOfFlush (Some why.NoMemory) = ⊤
+IsOfFlush (Some why.Hijacked) = ⊤
 IsOfFlush (Some ended) = ⊥
 
--- what a `feed` answers: the first of Over, Ready, More and Waiting that stands
-abbrev pub FeedTells : Next → Shown → List ℕ → Seen → Seen → Type 0
-FeedTells next.Waiting new came s s' = (new.state ≡ state.Reading) × (came ≡ []) × Rose s.waits s'.waits
-FeedTells next.More new came s s' = (new.state ≡ state.Reading) × (0 < length came)
-FeedTells next.Ready new came s s' = new.state ≡ state.Ready
-FeedTells next.TurnOver new came s s' = ⊥
-FeedTells next.Over new came s s' = new.state ≡ state.Over
+-- a `feed` may be made: requests are read, or a hijacker has the connection and nothing is owed
+abbrev pub MayFeed : Shown → Type 0
+MayFeed c = (c.state ≡ state.Reading) ⊎ ((c.state ≡ state.Hijacked) × (c.owed ≡ []))
+
+-- what a `feed` answers: the first of Over, Ready, More and Waiting that stands. More tells that bytes came, or that a
+-- hijacker was told the peer's end
+abbrev pub FeedTells : Next → LinkRead → Shown → Shown → List ℕ → Seen → Seen → Type 0
+FeedTells next.Waiting answer old new came s s' =
+    (answer ≡ read.NotYet) × (new.state ≡ old.state) × (came ≡ []) × Rose s.waits s'.waits
+FeedTells next.More answer old new came s s' = (new.state ≡ old.state) × ((0 < length came) ⊎ (answer ≡ read.End))
+FeedTells next.Ready answer old new came s s' = new.state ≡ state.Ready
+FeedTells next.TurnOver answer old new came s s' = ⊥
+FeedTells next.Over answer old new came s s' = new.state ≡ state.Over
 
 -- a `feed`: one read, which answered so, and gave the bytes that came
 pub record Feeds (result : Next) (old new : Shown) (s s' : Seen) : Type 0 where
@@ -61,14 +78,18 @@ pub record Feeds (result : Next) (old new : Shown) (s s' : Seen) : Type 0 where
   pub replied : new.replied ≡ old.replied
   pub sent : s'.sent ≡ s.sent
   pub why : IsOfFeed new.why
-  pub ends : TurnEnds new.why s s'
-  pub tells : FeedTells result new moved.came s s'
+  pub ends : FeedEnds answer s s'
+  pub tells : FeedTells result answer old new moved.came s s'
 
 -- the last run, read or write of a turn was made
 abbrev pub IsSpent : ℕ → ℕ → ℕ → Type 0
 IsSpent runs reads writes = (runs ≡ 10) ⊎ ((reads ≡ 160) ⊎ (writes ≡ 160))
 
--- bytes came, or a reply was sent whole
+-- a hijacker has the connection, and nothing is owed
+abbrev pub IsHandedOver : Shown → Type 0
+IsHandedOver c = (c.state ≡ state.Hijacked) × (c.owed ≡ [])
+
+-- bytes came, or a reply was sent whole, as that which hands the connection to a hijacker
 abbrev pub GotOn : List ℕ → Shown → Shown → Type 0
 GotOn came old new = (0 < length came) ⊎ (old.replied < new.replied)
 
@@ -77,7 +98,7 @@ abbrev pub TurnTells : Next → ℕ → ℕ → ℕ → List ℕ → Shown → S
 TurnTells next.Waiting runs reads writes came old new s s' =
     (new.state ≢ state.Over) × ¬ (IsSpent runs reads writes) × ¬ (GotOn came old new) × Rose s.waits s'.waits
 TurnTells next.More runs reads writes came old new s s' =
-    (new.state ≢ state.Over) × ¬ (IsSpent runs reads writes) × GotOn came old new × Rose s.waits s'.waits
+    (new.state ≢ state.Over) × ¬ (IsSpent runs reads writes) × GotOn came old new × (Rose s.waits s'.waits ⊎ IsHandedOver new)
 TurnTells next.Ready runs reads writes came old new s s' = ⊥
 TurnTells next.TurnOver runs reads writes came old new s s' = (new.state ≢ state.Over) × IsSpent runs reads writes
 TurnTells next.Over runs reads writes came old new s s' = new.state ≡ state.Over
@@ -87,7 +108,7 @@ abbrev pub RestsBehind : State → ℕ → ℕ → Type 0
 RestsBehind state.Reading before replied = (before < replied) × (replied < 10000)
 RestsBehind state.Ready before replied = (before < replied) × (replied < 10000)
 RestsBehind state.Answering before replied = before ≤ replied
-RestsBehind state.Hijacked before replied = ⊥
+RestsBehind state.Hijacked before replied = before < replied
 RestsBehind state.Over before replied = ⊤
 
 -- a turn: at most 10 runs, 160 reads and 160 writes, made by these moves, behind which it stops
@@ -106,13 +127,29 @@ pub record Turns (result : Next) (old new : Shown) (s s' : Seen) : Type 0 where
   pub ends : TurnEnds new.why s s'
   pub tells : TurnTells result runs reads writes moved.came old new s s'
 
+-- what a `flush` leaves, by the state before it: behind a reply the connection rests as behind one, and a hijacker that
+-- has it keeps it
+abbrev pub Leaves : State → Shown → Shown → Type 0
+Leaves state.Answering old new = RestsBehind new.state old.replied new.replied
+Leaves state.Hijacked old new = (new.state ≡ state.Hijacked → new.replied ≡ old.replied) × ((new.state ≡ state.Hijacked) ⊎ (new.state ≡ state.Over))
+Leaves other old new = ⊥
+
+-- a reply was sent whole that hands the connection to a hijacker, or all that the hijacker said was sent
+abbrev pub GotOnHijacked : Shown → Shown → Type 0
+GotOnHijacked old new = (new.state ≡ state.Hijacked) × ((old.state ≡ state.Answering) ⊎ (new.owed ≡ []))
+
+-- a reply is still under way, or what a hijacker said is, that had the connection before
+abbrev pub IsStillOwing : Shown → Shown → Type 0
+IsStillOwing old new =
+    (new.state ≡ state.Answering) ⊎ ((new.state ≡ state.Hijacked) × (old.state ≡ state.Hijacked) × (new.owed ≢ []))
+
 -- what a `flush` of so many writes answers: the first of Over, TurnOver, Ready, More and Waiting that stands
-abbrev pub FlushTells : Next → ℕ → Shown → Seen → Seen → Type 0
-FlushTells next.Waiting writes new s s' = (new.state ≡ state.Answering) × (writes ≢ 16) × Rose s.waits s'.waits
-FlushTells next.More writes new s s' = (new.state ≡ state.Reading) × (writes ≢ 16)
-FlushTells next.Ready writes new s s' = (new.state ≡ state.Ready) × (writes ≢ 16)
-FlushTells next.TurnOver writes new s s' = (new.state ≢ state.Over) × (writes ≡ 16)
-FlushTells next.Over writes new s s' = new.state ≡ state.Over
+abbrev pub FlushTells : Next → ℕ → Shown → Shown → Seen → Seen → Type 0
+FlushTells next.Waiting writes old new s s' = IsStillOwing old new × (writes ≢ 16) × Rose s.waits s'.waits
+FlushTells next.More writes old new s s' = ((new.state ≡ state.Reading) ⊎ GotOnHijacked old new) × (writes ≢ 16)
+FlushTells next.Ready writes old new s s' = (new.state ≡ state.Ready) × (writes ≢ 16)
+FlushTells next.TurnOver writes old new s s' = (new.state ≢ state.Over) × (writes ≡ 16)
+FlushTells next.Over writes old new s s' = new.state ≡ state.Over
 
 -- a `flush`: at most 16 writes, each of which took bytes but a last one that had to wait, made by these moves, behind
 -- which it stops
@@ -127,8 +164,8 @@ pub record Flushes (result : Next) (old new : Shown) (s s' : Seen) : Type 0 wher
   pub came : moved.came ≡ []
   pub given : s'.given ≡ s.given
   pub calls : new.calls ≡ old.calls
-  pub falls : new.state ≡ state.Answering → length new.owed + writes ≤ length old.owed + 1
-  pub rests : RestsBehind new.state old.replied new.replied
+  pub falls : new.state ≡ old.state → length new.owed + writes ≤ length old.owed + 1
+  pub rests : Leaves old.state old new
   pub why : IsOfFlush new.why
   pub ends : TurnEnds new.why s s'
-  pub tells : FlushTells result writes new s s'
+  pub tells : FlushTells result writes old new s s'

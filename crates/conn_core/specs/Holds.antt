@@ -1,5 +1,5 @@
 -- What a connection stands for between its steps, by where it is.
-use Rattle.std.specs.Prelude.{◌≡◌, ℕ, suc, Bool, List, [], ◌++◌, None}
+use Rattle.std.specs.Prelude.{◌≡◌, ℕ, suc, Bool, true, false, List, [], ◌++◌, None, Some}
 use Rattle.rack_types.specs.declared.fault.Fault.{Fault}
 use Rattle.rack_types.specs.Request.{Parts}
 use Rattle.rack_types.specs.declared.body.Body.{Ghosts}
@@ -7,10 +7,12 @@ use Rattle.rack_outside.specs.Link.{Seen}
 use Rattle.message_framing.specs.declared.intake.Intake.{Intake}
 use Rattle.message_framing.specs.Intake.{Fed}
 use Rattle.message_framing.specs.Request.{IsRequest, Refusal, Wanting}
+use Rattle.hijack_core.specs.Said.{GoesOnAs}
+use Rattle.reply_framing.specs.declared.types.After.TheVariants.{Hijack}
 use Rattle.reply_framing.specs.Owes.{Owes}
 use Rattle.talk_core.specs.Ended.{Past, Shows, AreLives}
-use Rattle.talk_core.specs.Stands.{Stands, silent, replies, refuses}
-use Rattle.talk_core.specs.Tail.{Voice}
+use Rattle.talk_core.specs.Stands.{Stands, silent, replies, refuses, hands_over}
+use Rattle.talk_core.specs.Tail.{Voice, goes_on}
 use Rattle.talk_core.specs.Teller.{Stacks, Teller, tell}
 use Rattle.conn_core.specs.declared.conn.Conn.{Conn}
 use Rattle.conn_core.specs.declared.inside.Inside.{Inside}
@@ -39,17 +41,42 @@ past s calls given sent over = record {
   closing = None;
 }
 
--- nothing is owed: the intake was fed these bytes, and those held come behind them
+-- nothing is owed: the intake was fed these bytes, and those held come behind them. The peer did not end
 pub record Between {H : Type 0} (V : Voice H) (T : Teller H) (over : Bool) (given sent : List ℕ) (c : Kept) (now : List ℕ) : Type 0 where
   pub fed : Fed c.intake now
   pub ring : c.ring ≡ []
+  pub open : over ≡ false
   pub stands : Stands V T over given sent c.calls silent (now ++ c.held) []
 
--- a reply is under way: what is owed of it is in the ring and behind it, and the bytes held come behind its request
+-- a reply is under way: what is owed of it is in the ring and behind it, and the bytes held come behind its request.
+-- The peer did not end
 pub record Replying {H : Type 0} (V : Voice H) (T : Teller H) (over : Bool) (given sent : List ℕ) (c : Kept) (k : ℕ) (r : Parts)
     (behind : List ℕ) : Type 0 where
   pub count : c.calls ≡ suc k
+  pub open : over ≡ false
   pub stands : Stands V T over given sent k (replies r) c.held (c.ring ++ behind)
+
+-- the hijacker that a reply handed the connection to was told the rest of the bytes, and what it said of that and
+-- was not sent is in the ring
+pub record Handed {H : Type 0} (V : Voice H) (T : Teller H) (over : Bool) (given sent : List ℕ) (c : Kept) : Type 0 where
+  pub k : ℕ
+  pub request : Parts
+  pub first : H
+  pub rest : List ℕ
+  pub count : c.calls ≡ suc k
+  pub stands : Stands V T over given sent k (hands_over request first) rest c.ring
+
+-- the same, and it goes on: it is this one behind those bytes. The peer did not end, and no byte is held
+pub record Hears {H : Type 0} (V : Voice H) (T : Teller H) (over : Bool) (given sent : List ℕ) (c : Kept) (now : H) : Type 0 where
+  pub handed : Handed V T over given sent c
+  pub open : over ≡ false
+  pub goes : (V.says handed.first handed.rest).go_on ≡ true
+  pub as : GoesOnAs (V.says handed.first) (V.ends handed.first) handed.rest (V.says now) (V.ends now)
+
+-- the same, and it said its last: it does not go on, or it was told the peer's end
+pub record SaidLast {H : Type 0} (V : Voice H) (T : Teller H) (over : Bool) (given sent : List ℕ) (c : Kept) : Type 0 where
+  pub handed : Handed V T over given sent c
+  pub ended : goes_on V handed.first handed.rest over ≡ false
 
 abbrev pub HoldsAt : {B H : Type 0} → At B H → Voice H → Teller H → Seen → Bool → List ℕ → List ℕ → Kept → Type 0
 HoldsAt {B} {H} at.Reading V T s over given sent c =
@@ -62,8 +89,13 @@ HoldsAt {B} {H} (at.Answering f) V T s over given sent c =
     (k : ℕ) × (r : Parts) × (said : List ℕ) × Owes f (T k r) said × Replying V T over given sent c k r f.rest.bytes
 HoldsAt {B} {H} (at.Writing keeps) V T s over given sent c =
     (k : ℕ) × (r : Parts) × (after_of keeps ≡ (T k r).after) × Replying V T over given sent c k r []
+HoldsAt {B} {H} (at.Handing h) V T s over given sent c =
+    (k : ℕ) × (r : Parts) × ((T k r).after ≡ Hijack) × ((T k r).hijacker ≡ Some h) × Replying V T over given sent c k r []
 HoldsAt {B} {H} at.Refusing V T s over given sent c =
     (f : Fault) × (rest : List ℕ) × Stands V T over given sent c.calls (refuses f) rest c.ring
+HoldsAt {B} {H} (at.Taken h) V T s over given sent c = Hears V T over given sent c h
+HoldsAt {B} {H} (at.Speaking h) V T s over given sent c = Hears V T over given sent c h
+HoldsAt {B} {H} at.Parting V T s over given sent c = SaidLast V T over given sent c
 HoldsAt {B} {H} (at.Over why) V T s over given sent c = EndsPlainly why V T (past s c.calls given sent over)
 
 -- a connection at this place stands for its talk, over these replies: what its link tells, and what it keeps

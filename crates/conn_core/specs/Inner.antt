@@ -1,5 +1,6 @@
 -- What the steps of a connection leave of what it shows. This serves inner contracts alone.
 use Rattle.std.specs.Prelude.{◌≡◌, ℕ, ◌+◌, ◌-◌, ◌*◌, ◌<◌, ◌≤◌, Bool, true, false, List, [], length, None, Some, ◌⊎◌, ⊤}
+use Rattle.rack_types.specs.declared.fault.Fault.{Fault}
 use Rattle.rack_types.specs.declared.peer.Local.{Local}
 use Rattle.rack_types.specs.Request.{Parts}
 use Rattle.rack_env.specs.Environment.{env_pairs}
@@ -21,7 +22,7 @@ use Rattle.conn_core.specs.declared.place.At.{At}
 use Rattle.conn_core.specs.declared.place.At.TheVariants as at
 use Rattle.conn_core.specs.declared.state.State.{State}
 use Rattle.conn_core.specs.declared.state.State.TheVariants as state
-use Rattle.conn_core.specs.Place.{state_at}
+use Rattle.conn_core.specs.Place.{IsHearing, state_at}
 use Rattle.conn_core.specs.Shown.{Shown, Moved}
 use Rattle.conn_core.specs.Calls.{TurnEnds, IsOfFeed, IsOfFlush, RestsBehind}
 use Rattle.conn_core.specs.Moves.{ring_room, SameShown, Starts, NamesFault, WantsMemory, write_waits, WritesOnce, OwesRightly, Move, Moment, Makes, TurnStops}
@@ -50,7 +51,35 @@ pub record ReadsBy (result : LinkRead) (old new : Shown) (s s' : Seen) : Type 0 
   pub ends : TurnEnds new.why s s'
   pub leaves : ReadLeaves result new moved.came s s'
 
--- the run of a request was made, or memory was refused before it
+-- behind what it was told a hijacker has the connection, or that ended
+abbrev pub IsHeard : State → Type 0
+IsHeard state.Reading = ⊥
+IsHeard state.Ready = ⊥
+IsHeard state.Answering = ⊥
+IsHeard state.Hijacked = ⊤
+IsHeard state.Over = ⊤
+
+-- how a read for a hijacker went
+abbrev pub HearLeaves : LinkRead → Shown → List ℕ → Seen → Seen → Type 0
+HearLeaves (read.Bytes n) new came s s' = (n ≡ length came) × (0 < n) × IsHeard new.state
+HearLeaves read.NotYet new came s s' = (came ≡ []) × (new.state ≡ state.Hijacked) × Rose s.waits s'.waits
+HearLeaves read.End new came s s' = (came ≡ []) × IsHeard new.state
+HearLeaves read.Failed new came s s' = (came ≡ []) × (new.state ≡ state.Over)
+
+pub record HearsBy (result : LinkRead) (old new : Shown) (s s' : Seen) : Type 0 where
+  pub moved : Moved old new s s' 1 0
+  pub calls : new.calls ≡ old.calls
+  pub replied : new.replied ≡ old.replied
+  pub sent : s'.sent ≡ s.sent
+  pub why : IsOfFeed new.why
+  pub leaves : HearLeaves result new moved.came s s'
+
+-- a request was run, and its reply begins; or memory was refused before it
+abbrev pub RunsOnce : Bool → Shown → Shown → Type 0
+RunsOnce true old new = Starts old new
+RunsOnce false old new = WantsMemory old new
+
+-- the run of a request was made, or not
 abbrev pub runs_of : Bool → ℕ
 runs_of true = 1
 runs_of false = 0
@@ -69,23 +98,31 @@ writes_of said.Waits = 1
 -- how such a step went
 abbrev pub SaidLeaves : Said → Shown → Shown → Seen → Seen → Type 0
 SaidLeaves said.Unwritten old new s s' = new.state ≡ state.Over
-SaidLeaves said.Wrote old new s s' = new.state ≡ state.Answering → length new.owed < length old.owed
-SaidLeaves said.Waits old new s s' = (new.state ≡ state.Answering) × Rose s.waits s'.waits × (length new.owed ≤ length old.owed)
+SaidLeaves said.Wrote old new s s' = new.state ≡ old.state → length new.owed < length old.owed
+SaidLeaves said.Waits old new s s' = (new.state ≡ old.state) × Rose s.waits s'.waits × (length new.owed ≤ length old.owed) × (new.owed ≢ [])
 
--- more replies were sent whole, where the connection rests behind it
-abbrev pub SaysOn : State → ℕ → ℕ → Type 0
-SaysOn state.Reading before replied = before < replied
-SaysOn state.Ready before replied = before < replied
-SaysOn state.Answering before replied = replied ≡ before
-SaysOn state.Hijacked before replied = ⊥
-SaysOn state.Over before replied = ⊤
+-- a hijacker took the connection over behind a reply, or had it before
+abbrev pub HijackedOn : State → ℕ → ℕ → Type 0
+HijackedOn state.Reading before replied = ⊥
+HijackedOn state.Ready before replied = ⊥
+HijackedOn state.Answering before replied = before < replied
+HijackedOn state.Hijacked before replied = replied ≡ before
+HijackedOn state.Over before replied = ⊥
+
+-- more replies were sent whole, where the connection rests behind it, by the states before and behind
+abbrev pub SaysOn : State → State → ℕ → ℕ → Type 0
+SaysOn old state.Reading before replied = (old ≡ state.Answering) × (before < replied)
+SaysOn old state.Ready before replied = (old ≡ state.Answering) × (before < replied)
+SaysOn old state.Answering before replied = (old ≡ state.Answering) × (replied ≡ before)
+SaysOn old state.Hijacked before replied = HijackedOn old before replied
+SaysOn old state.Over before replied = ⊤
 
 pub record Says (result : Said) (old new : Shown) (s s' : Seen) : Type 0 where
   pub moved : Moved old new s s' 0 (writes_of result)
   pub came : moved.came ≡ []
   pub given : s'.given ≡ s.given
   pub calls : new.calls ≡ old.calls
-  pub replied : SaysOn new.state old.replied new.replied
+  pub replied : SaysOn old.state new.state old.replied new.replied
   pub why : IsOfFlush new.why
   pub ends : TurnEnds new.why s s'
   pub leaves : SaidLeaves result old new s s'
@@ -108,7 +145,11 @@ rank {B} {H} at.Asked = 1
 rank {B} {H} (at.Refused f) = 2
 rank {B} {H} (at.Answering f) = 1
 rank {B} {H} (at.Writing keeps) = 1
+rank {B} {H} (at.Handing h) = 1
 rank {B} {H} at.Refusing = 1
+rank {B} {H} (at.Taken h) = 1
+rank {B} {H} (at.Speaking h) = 1
+rank {B} {H} at.Parting = 1
 rank {B} {H} (at.Over ended) = 0
 
 abbrev pub work : {B H : Type 0} → Left → At B H → ℕ
@@ -122,15 +163,23 @@ IsSpentLeft l = (l.runs ≡ 0) ⊎ ((l.reads ≡ 0) ⊎ (l.writes ≡ 0))
 abbrev pub StepLeaves : {B H : Type 0} → Step → Left → Left → At B H → At B H → Seen → Seen → Type 0
 StepLeaves {B} {H} step.GoesOn l l' a b s s' = work l' b < work l a
 StepLeaves {B} {H} step.Waits l l' a b s s' = Rose s.waits s'.waits
-StepLeaves {B} {H} step.Stops l l' a b s s' = (state_at b ≡ state.Over) ⊎ IsSpentLeft l'
+StepLeaves {B} {H} step.Stops l l' a b s s' = (state_at b ≡ state.Over) ⊎ (IsHearing b ⊎ IsSpentLeft l')
 
--- a ring was filled from a reply that is under way, or memory was refused
+-- the ring was filled with what is owed, or memory was refused for the rest of it
+pub record Fills (old new : Shown) : Type 0 where
+  pub same : SameShown old new
+  pub calls : new.calls ≡ old.calls
+  pub replied : new.replied ≡ old.replied
+  pub owed : new.owed ≡ old.owed
+  pub state : new.state ≡ old.state
+  pub why : new.why ≡ None
+  pub held : new.held ≡ old.held
+  pub after : new.after ≡ old.after
+  pub sure : old.sure ≡ true → new.sure ≡ true
+
 abbrev pub FillsShown : Bool → Shown → Shown → Type 0
-FillsShown true old new =
-    SameShown old new × (new.calls ≡ old.calls) × (new.replied ≡ old.replied) × (new.owed ≡ old.owed)
-    × (new.state ≡ state.Answering) × (new.why ≡ None)
-FillsShown false old new =
-    SameShown old new × (new.calls ≡ old.calls) × (new.state ≡ state.Over) × (new.why ≡ Some why.NoMemory)
+FillsShown true old new = Fills old new
+FillsShown false old new = (old.state ≡ state.Answering) × (old.sure ≡ false) × WantsMemory old new
 
 -- bytes are in the ring; and where a framer has the rest of the reply, the ring is full and more come
 abbrev pub IsFilledAt : {B H : Type 0} → At B H → List ℕ → Type 0
@@ -139,16 +188,23 @@ IsFilledAt {B} {H} at.Asked ring = ⊥
 IsFilledAt {B} {H} (at.Refused f) ring = ⊥
 IsFilledAt {B} {H} (at.Answering f) ring = (length ring ≡ ring_room) × (0 < length f.rest.bytes)
 IsFilledAt {B} {H} (at.Writing keeps) ring = 0 < length ring
+IsFilledAt {B} {H} (at.Handing h) ring = 0 < length ring
 IsFilledAt {B} {H} at.Refusing ring = 0 < length ring
+IsFilledAt {B} {H} (at.Taken h) ring = ⊥
+IsFilledAt {B} {H} (at.Speaking h) ring = 0 < length ring
+IsFilledAt {B} {H} at.Parting ring = 0 < length ring
 IsFilledAt {B} {H} (at.Over ended) ring = ⊥
 
 -- how a request or a refusal was taken up, by the runs that it took
 abbrev pub TakesUp : ℕ → Shown → Shown → Type 0
-TakesUp runs old new = ((runs ≡ 1) × Starts 1 old new) ⊎ ((runs ≡ 0) × (NamesFault old new ⊎ WantsMemory old new))
+TakesUp runs old new =
+    ((runs ≡ 1) × (old.fault ≡ None) × Starts old new)
+    ⊎ ((runs ≡ 0)
+        × (((fault : Fault) × (old.fault ≡ Some fault) × NamesFault fault old new) ⊎ ((old.fault ≡ None) × WantsMemory old new)))
 
 -- how a step that says went: memory was refused, or it was one write
 abbrev pub SaysOnce : Said → Shown → Shown → Seen → Seen → Type 0
-SaysOnce said.Unwritten old new s s' = (s' ≡ s) × WantsMemory old new
+SaysOnce said.Unwritten old new s s' = (s' ≡ s) × (old.state ≡ state.Answering) × (old.sure ≡ false) × WantsMemory old new
 SaysOnce said.Wrote old new s s' = (answer : LinkWrite) × (write_waits answer ≡ false) × WritesOnce answer old new s s'
 SaysOnce said.Waits old new s s' = WritesOnce write.NotYet old new s s'
 

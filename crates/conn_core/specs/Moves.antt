@@ -7,6 +7,8 @@ use Rattle.rack_outside.specs.declared.link.LinkRead.TheVariants as read
 use Rattle.rack_outside.specs.declared.link.LinkWrite.{LinkWrite}
 use Rattle.rack_outside.specs.declared.link.LinkWrite.TheVariants as write
 use Rattle.reply_framing.specs.Fault.{fault_reply}
+use Rattle.reply_framing.specs.declared.types.After.{After}
+use Rattle.reply_framing.specs.declared.types.After.TheVariants.{Keep, Close, Hijack}
 use Rattle.talk_core.specs.Counts.{counted_by}
 use Rattle.talk_core.specs.declared.ended.Why.{Why}
 use Rattle.talk_core.specs.declared.ended.Why.TheVariants as why
@@ -21,28 +23,38 @@ read_room = 16384
 abbrev pub ring_room : ℕ
 ring_room = 65536
 
--- the peer, the local side, the lives and the bytes taken are as before
+-- the peer, the local side, the lives and the count of bytes that were read are as before
 pub record SameShown (old new : Shown) : Type 0 where
   pub peer : new.peer ≡ old.peer
   pub local : new.local ≡ old.local
   pub lives : new.lives ≡ old.lives
   pub taken : new.taken ≡ old.taken
 
--- how a request or a refusal was taken up, by so many runs: a reply is under way, or memory was refused
-pub record Starts (runs : ℕ) (old new : Shown) : Type 0 where
-  pub same : SameShown old new
-  pub calls : new.calls ≡ old.calls + runs
-  pub place : ((new.state ≡ state.Answering) × (new.why ≡ None) × (new.replied ≡ old.replied))
-      ⊎ ((new.state ≡ state.Over) × (new.why ≡ Some why.NoMemory))
+-- a request was run, or was to be: its reply is under way; or it says nothing, and a hijacker took the connection over,
+-- which was told the bytes held, and goes on, or said its last; or memory was refused
+abbrev pub StartsAs : State → Option Why → Shown → Shown → Type 0
+StartsAs state.Reading w old new = ⊥
+StartsAs state.Ready w old new = ⊥
+StartsAs state.Answering w old new = (w ≡ None) × (new.replied ≡ old.replied) × (new.held ≡ old.held)
+StartsAs state.Hijacked w old new = (w ≡ None) × (new.replied ≡ old.replied + 1)
+StartsAs state.Over w old new = (w ≡ Some why.NoMemory) ⊎ (w ≡ Some why.Hijacked)
 
--- the reply that names a fault was begun, and all of it is owed. That takes no memory
-pub record NamesFault (old new : Shown) : Type 0 where
+-- a request was run: its reply begins
+pub record Starts (old new : Shown) : Type 0 where
+  pub same : SameShown old new
+  pub calls : new.calls ≡ old.calls + 1
+  pub place : StartsAs new.state new.why old new
+
+-- the reply that names this fault was begun, and all of it is owed. That takes no memory
+pub record NamesFault (fault : Fault) (old new : Shown) : Type 0 where
   pub same : SameShown old new
   pub calls : new.calls ≡ old.calls
   pub replied : new.replied ≡ old.replied
   pub state : new.state ≡ state.Answering
   pub why : new.why ≡ None
-  pub owed : (fault : Fault) × (new.owed ≡ fault_reply fault)
+  pub owed : new.owed ≡ fault_reply fault
+  pub after : new.after ≡ Close
+  pub sure : new.sure ≡ true
 
 -- memory was refused, and the connection ended of it
 pub record WantsMemory (old new : Shown) : Type 0 where
@@ -69,7 +81,8 @@ read_waits read.NotYet = true
 read_waits read.End = false
 read_waits read.Failed = false
 
--- behind bytes that were fed more are to be read, or a request or a refusal stands, or memory was refused
+-- behind bytes that were fed to the reader of requests more are to be read, or a request or a refusal stands, or memory
+-- was refused
 abbrev pub FedTo : State → Option Why → Type 0
 FedTo state.Reading w = w ≡ None
 FedTo state.Ready w = w ≡ None
@@ -77,12 +90,33 @@ FedTo state.Answering w = ⊥
 FedTo state.Hijacked w = ⊥
 FedTo state.Over w = w ≡ Some why.NoMemory
 
--- what a read leaves: behind bytes what they make; as before where it had to wait; and else an end that is named for it
-abbrev pub BehindRead : LinkRead → Shown → Type 0
-BehindRead (read.Bytes n) new = FedTo new.state new.why
-BehindRead read.NotYet new = (new.state ≡ state.Reading) × (new.why ≡ None)
-BehindRead read.End new = (new.state ≡ state.Over) × (new.why ≡ Some why.PeerEnd)
-BehindRead read.Failed new = (new.state ≡ state.Over) × (new.why ≡ Some why.ReadFailed)
+-- behind what a hijacker was told it has the connection, or what it said last is owed, or was nothing, or memory was
+-- refused
+abbrev pub ToldTo : State → Option Why → Type 0
+ToldTo state.Reading w = ⊥
+ToldTo state.Ready w = ⊥
+ToldTo state.Answering w = ⊥
+ToldTo state.Hijacked w = w ≡ None
+ToldTo state.Over w = (w ≡ Some why.Hijacked) ⊎ (w ≡ Some why.NoMemory)
+
+-- the same behind the peer's end, where a hijacker that still has the connection said something
+abbrev pub EndedTo : Shown → Type 0
+EndedTo new = ToldTo new.state new.why × (new.state ≡ state.Hijacked → (new.after ≡ Close) × (new.owed ≢ []))
+
+-- what a read leaves, by the state before it: behind bytes what they make; as before where it had to wait; behind the
+-- peer's end, and behind a failure, an end that is named for it, unless a hijacker was told the peer's end
+abbrev pub BehindRead : State → LinkRead → Shown → Shown → Type 0
+BehindRead state.Reading (read.Bytes n) old new = FedTo new.state new.why × (new.owed ≡ old.owed)
+BehindRead state.Reading read.NotYet old new = (new.state ≡ state.Reading) × (new.why ≡ None) × (new.owed ≡ old.owed)
+BehindRead state.Reading read.End old new = (new.state ≡ state.Over) × (new.why ≡ Some why.PeerEnd)
+BehindRead state.Reading read.Failed old new = (new.state ≡ state.Over) × (new.why ≡ Some why.ReadFailed)
+BehindRead state.Hijacked (read.Bytes n) old new = ToldTo new.state new.why
+BehindRead state.Hijacked read.NotYet old new = (new.state ≡ state.Hijacked) × (new.why ≡ None) × (new.owed ≡ old.owed)
+BehindRead state.Hijacked read.End old new = EndedTo new
+BehindRead state.Hijacked read.Failed old new = (new.state ≡ state.Over) × (new.why ≡ Some why.ReadFailed)
+BehindRead state.Ready answer old new = ⊥
+BehindRead state.Answering answer old new = ⊥
+BehindRead state.Over answer old new = ⊥
 
 -- one read, which answered so
 pub record ReadsOnce (answer : LinkRead) (old new : Shown) (s s' : Seen) : Type 0 where
@@ -93,9 +127,8 @@ pub record ReadsOnce (answer : LinkRead) (old new : Shown) (s s' : Seen) : Type 
   pub lives : new.lives ≡ old.lives
   pub calls : new.calls ≡ old.calls
   pub replied : new.replied ≡ old.replied
-  pub owed : new.owed ≡ old.owed
   pub taken : new.taken ≡ counted_by (size_of answer) old.taken
-  pub behind : BehindRead answer new
+  pub behind : BehindRead old.state answer old new
 
 -- whether a write had to wait
 abbrev pub write_waits : LinkWrite → Bool
@@ -104,21 +137,46 @@ write_waits write.NotYet = true
 write_waits write.Failed = false
 write_waits write.NoMemory = false
 
--- what stands behind a write that took bytes, with so many replies that were sent whole before it and behind it: the
--- reply goes on; or it is whole, and the connection goes on behind it, or closes, or wanted memory for what came next
-abbrev pub TookTo : State → Option Why → ℕ → ℕ → Type 0
-TookTo state.Reading w before replied = (w ≡ None) × (replied ≡ before + 1)
-TookTo state.Ready w before replied = (w ≡ None) × (replied ≡ before + 1)
-TookTo state.Answering w before replied = (w ≡ None) × (replied ≡ before)
-TookTo state.Hijacked w before replied = ⊥
-TookTo state.Over w before replied = (w ≡ Some why.Closed) ⊎ (w ≡ Some why.NoMemory)
+-- some bytes are still owed behind a write that took bytes
+pub record StillOwes (rest : List ℕ) (old new : Shown) : Type 0 where
+  pub some : rest ≢ []
+  pub owed : new.owed ≡ rest
+  pub state : new.state ≡ old.state
+  pub why : new.why ≡ None
+  pub replied : new.replied ≡ old.replied
+  pub held : new.held ≡ old.held
+  pub after : new.after ≡ old.after
+  pub sure : old.sure ≡ true → new.sure ≡ true
+
+-- a reply was sent whole behind which the connection goes on: the bytes held were fed, for which memory may be refused
+-- where there are some
+abbrev pub KeptTo : State → Option Why → Shown → Shown → Type 0
+KeptTo state.Reading w old new = (w ≡ None) × (new.replied ≡ old.replied + 1) × (new.owed ≡ [])
+KeptTo state.Ready w old new = (w ≡ None) × (new.replied ≡ old.replied + 1) × (new.owed ≡ [])
+KeptTo state.Answering w old new = ⊥
+KeptTo state.Hijacked w old new = ⊥
+KeptTo state.Over w old new = (w ≡ Some why.NoMemory) × (old.held ≢ [])
+
+-- all that was owed is sent. Behind a reply the connection goes on or closes, or a hijacker takes it over and is told the
+-- bytes held. Behind what a hijacker said it has the connection, or that was its last
+abbrev pub SentTo : State → After → Shown → Shown → Type 0
+SentTo state.Answering Keep old new = KeptTo new.state new.why old new
+SentTo state.Answering Close old new = (new.state ≡ state.Over) × (new.why ≡ Some why.Closed)
+SentTo state.Answering Hijack old new = ToldTo new.state new.why × (new.state ≡ state.Hijacked → new.replied ≡ old.replied + 1)
+SentTo state.Hijacked Keep old new =
+    (new.state ≡ state.Hijacked) × (new.why ≡ None) × (new.replied ≡ old.replied) × (new.owed ≡ [])
+SentTo state.Hijacked Close old new = (new.state ≡ state.Over) × (new.why ≡ Some why.Hijacked)
+SentTo state.Hijacked Hijack old new = ⊥
+SentTo state.Reading after old new = ⊥
+SentTo state.Ready after old new = ⊥
+SentTo state.Over after old new = ⊥
 
 -- what a write leaves: the bytes that it took are no longer owed; as before where it had to wait; and else an end
 -- that is named for it
 abbrev pub BehindWrite : LinkWrite → Shown → Shown → Type 0
-BehindWrite (write.Took n) old new = (new.owed ≡ drop n old.owed) × TookTo new.state new.why old.replied new.replied
-BehindWrite write.NotYet old new =
-    (new.owed ≡ old.owed) × (new.state ≡ state.Answering) × (new.why ≡ None) × (new.replied ≡ old.replied)
+BehindWrite (write.Took n) old new =
+    StillOwes (drop n old.owed) old new ⊎ ((drop n old.owed ≡ []) × SentTo old.state old.after old new)
+BehindWrite write.NotYet old new = StillOwes old.owed old new
 BehindWrite write.Failed old new = (new.state ≡ state.Over) × (new.why ≡ Some why.WriteFailed)
 BehindWrite write.NoMemory old new = (new.state ≡ state.Over) × (new.why ≡ Some why.NoMemory)
 
@@ -131,16 +189,23 @@ pub record WritesOnce (answer : LinkWrite) (old new : Shown) (s s' : Seen) : Typ
   pub calls : new.calls ≡ old.calls
   pub behind : BehindWrite answer old new
 
--- bytes are owed exactly where a reply is under way
-pub record OwesRightly (s : Shown) : Type 0 where
-  pub some : s.state ≡ state.Answering → 0 < length s.owed
-  pub none : s.state ≢ state.Answering → s.owed ≡ []
+-- bytes are owed where a reply is under way, and else only where a hijacker has the connection, which holds none; and
+-- no byte is held where more are to be read
+abbrev pub OwesAs : State → Shown → Type 0
+OwesAs state.Reading s = (s.owed ≡ []) × (s.held ≡ [])
+OwesAs state.Ready s = s.owed ≡ []
+OwesAs state.Answering s = s.owed ≢ []
+OwesAs state.Hijacked s = s.after ≡ Keep → s.held ≡ []
+OwesAs state.Over s = s.owed ≡ []
 
--- a move: the request that stands was run, and its reply begun; the reply to a refusal was begun; memory was refused
--- where a request was to be run, or bytes of a reply were to be made; one read; one write
+abbrev pub OwesRightly : Shown → Type 0
+OwesRightly s = OwesAs s.state s
+
+-- a move: the request that stands was run, and its reply begun; the reply to the refusal that stands was begun; memory
+-- was refused where a request was to be run, or bytes of a reply were to be made; one read; one write
 pub data Move : Type 0 where
   Run : Move
-  Refusal : Move
+  Refusal : (fault : Fault) → Move
   Want : Move
   Read : (answer : LinkRead) → Move
   Write : (answer : LinkWrite) → Move
@@ -175,20 +240,27 @@ pub record Spends (runs reads writes : ℕ) (waits : Bool) (m n : Moment) : Type
   pub writes_are : m.writes ≡ n.writes + writes
   pub waits_is : n.waited ≡ waits
 
+-- bytes are owed: a reply is under way, or what a hijacker said was not sent
+abbrev pub IsOwing : Shown → Type 0
+IsOwing s = (s.state ≡ state.Answering) ⊎ ((s.state ≡ state.Hijacked) × (s.owed ≢ []))
+
 -- one move from a moment to the next: where a request or a refusal stands, it is taken up; where bytes are owed, they
--- are written; and only where neither is so, is there a read
+-- are written; and only where neither is so, is there a read. Memory is refused where a request is to be run, and where
+-- a body is asked for the rest of what is owed
 abbrev pub Makes : Move → Moment → Moment → Type 0
 Makes Run m n =
-    (m.shown.state ≡ state.Ready) × IsOpen m × Spends 1 0 0 false m n × (n.seen ≡ m.seen) × Starts 1 m.shown n.shown
-Makes Refusal m n =
-    (m.shown.state ≡ state.Ready) × IsOpen m × Spends 0 0 0 false m n × (n.seen ≡ m.seen) × NamesFault m.shown n.shown
+    (m.shown.state ≡ state.Ready) × (m.shown.fault ≡ None) × IsOpen m × Spends 1 0 0 false m n × (n.seen ≡ m.seen) × Starts m.shown n.shown
+Makes (Refusal fault) m n =
+    (m.shown.state ≡ state.Ready) × (m.shown.fault ≡ Some fault) × IsOpen m × Spends 0 0 0 false m n × (n.seen ≡ m.seen)
+    × NamesFault fault m.shown n.shown
 Makes Want m n =
-    (((m.shown.state ≡ state.Ready) × IsOpen m) ⊎ ((m.shown.state ≡ state.Answering) × MayWrite m))
+    (((m.shown.state ≡ state.Ready) × (m.shown.fault ≡ None) × IsOpen m)
+        ⊎ ((m.shown.state ≡ state.Answering) × (m.shown.sure ≡ false) × MayWrite m))
     × Spends 0 0 0 false m n × (n.seen ≡ m.seen) × WantsMemory m.shown n.shown
 Makes (Read answer) m n =
     (m.shown.state ≡ state.Reading) × IsOpen m × Spends 0 1 0 (read_waits answer) m n × ReadsOnce answer m.shown n.shown m.seen n.seen
 Makes (Write answer) m n =
-    (m.shown.state ≡ state.Answering) × MayWrite m × Spends 0 0 1 (write_waits answer) m n × WritesOnce answer m.shown n.shown m.seen n.seen
+    IsOwing m.shown × MayWrite m × Spends 0 0 1 (write_waits answer) m n × WritesOnce answer m.shown n.shown m.seen n.seen
 
 -- these moves lead from a moment to another
 abbrev pub Goes : List Move → Moment → Moment → Type 0
@@ -210,12 +282,13 @@ turn_at shown seen runs reads writes waited = record {
 abbrev pub IsSpentAt : Moment → Type 0
 IsSpentAt m = (m.runs ≡ 0) ⊎ ((m.reads ≡ 0) ⊎ (m.writes ≡ 0))
 
--- a turn goes no further in this state. What is owed is still written where no run is left
+-- a turn goes no further in this state. What is owed is still written where no run is left, and what a hijacker said
+-- too; but nothing is read for a hijacker
 abbrev pub StopsIn : State → Moment → Type 0
 StopsIn state.Reading m = IsSpentAt m
 StopsIn state.Ready m = IsSpentAt m
 StopsIn state.Answering m = (m.reads ≡ 0) ⊎ (m.writes ≡ 0)
-StopsIn state.Hijacked m = ⊤
+StopsIn state.Hijacked m = (m.shown.owed ≡ []) ⊎ ((m.reads ≡ 0) ⊎ (m.writes ≡ 0))
 StopsIn state.Over m = ⊤
 
 -- a turn stops only where the link had to wait, or where no move may be made
@@ -235,4 +308,4 @@ flush_at shown seen writes waited = record {
 
 -- a flush stops only where the link had to wait, where nothing is owed, or where no write is left
 abbrev pub FlushStops : Moment → Type 0
-FlushStops m = (m.waited ≡ true) ⊎ ((m.shown.state ≢ state.Answering) ⊎ (m.writes ≡ 0))
+FlushStops m = (m.waited ≡ true) ⊎ (¬ (IsOwing m.shown) ⊎ (m.writes ≡ 0))

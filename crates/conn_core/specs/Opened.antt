@@ -1,8 +1,9 @@
 -- A connection at its start, and one that could not be opened.
-use Rattle.std.specs.Prelude.{◌≡◌, ℕ, List, [], ◌∷◌, None}
+use Rattle.std.specs.Prelude.{◌≡◌, ℕ, true, List, [], ◌∷◌, None}
 use Rattle.rack_types.specs.declared.peer.Local.{Local}
 use Rattle.rack_types.specs.declared.body.Body.{Ghosts}
 use Rattle.message_framing.specs.Intake.{Fed}
+use Rattle.reply_framing.specs.declared.types.After.TheVariants.{Keep}
 use Rattle.talk_core.specs.declared.ended.Ended.{Ended}
 use Rattle.talk_core.specs.declared.ended.Why.TheVariants as why
 use Rattle.conn_core.specs.declared.inside.Inside.{Inside}
@@ -22,6 +23,10 @@ opened peer local phase = record {
   owed = [];
   state = state.Reading;
   why = None;
+  fault = None;
+  held = [];
+  after = Keep;
+  sure = true;
 }
 
 -- memory was refused: the link is handed back, and nothing was run

@@ -1,20 +1,19 @@
--- How a connection ended on which nothing was timed out or handed over: what was being said is named, where some
--- of it is lacking.
-use Rattle.std.specs.Prelude.{◌≢◌, ℕ, ◌<◌, Bool, List, []}
+-- How a connection ended on which nothing was timed out: what was being said is named, where some of it is lacking.
+use Rattle.std.specs.Prelude.{◌≢◌, ℕ, ◌<◌, Bool, false, List, []}
 use Rattle.rack_types.specs.declared.peer.Local.{Local}
 use Rattle.rack_outside.specs.Link.{Seen}
 use Rattle.talk_core.specs.declared.ended.Ended.{Ended}
 use Rattle.talk_core.specs.declared.ended.Why.{Why}
 use Rattle.talk_core.specs.declared.ended.Why.TheVariants as why
-use Rattle.talk_core.specs.Ended.{Past, EndsBy, Shows, past_of}
-use Rattle.talk_core.specs.Stands.{Word, Partly, IsPlain}
+use Rattle.talk_core.specs.Ended.{Past, EndsBy, Shows, past_of, IsTimed}
+use Rattle.talk_core.specs.Stands.{Word, Partly}
 use Rattle.talk_core.specs.Tail.{Voice}
 use Rattle.talk_core.specs.Teller.{Stacks, Teller, tell}
 
--- of what was being said, a reply, a refusal or nothing, this is lacking
+-- of what was being said this is lacking, and that isn't the reply to a request that took too long
 pub record LacksPlainly {H : Type 0} (V : Voice H) (T : Teller H) (p : Past) (lacks : List ℕ) : Type 0 where
   pub word : Word H
-  pub plain : IsPlain word
+  pub untimed : IsTimed word false
   pub partly : Partly V T p.over p.given p.sent p.calls p.closing word lacks
 
 abbrev pub EndsPlainly : {H : Type 0} → Why → Voice H → Teller H → Past → Type 0

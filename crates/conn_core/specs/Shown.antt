@@ -1,9 +1,13 @@
 -- What contracts see of a connection.
-use Rattle.std.specs.Prelude.{◌≡◌, ℕ, ◌-◌, ◌≤◌, List, [], ◌++◌, length, Option, None, Some}
+use Rattle.std.specs.Prelude.{◌≡◌, ℕ, ◌-◌, ◌≤◌, Bool, true, List, [], ◌++◌, length, Option, None, Some}
+use Rattle.rack_types.specs.declared.fault.Fault.{Fault}
 use Rattle.rack_types.specs.declared.peer.Local.{Local}
 use Rattle.rack_types.specs.declared.body.Body.{Ghosts}
 use Rattle.rack_outside.specs.Link.{Seen}
 use Rattle.rack_outside.specs.Told.{appended}
+use Rattle.reply_framing.specs.declared.types.After.{After}
+use Rattle.reply_framing.specs.declared.types.After.TheVariants.{Keep, Close, Hijack}
+use Rattle.reply_framing.specs.Reply.{body_after}
 use Rattle.talk_core.specs.Counts.{counted_by}
 use Rattle.talk_core.specs.declared.ended.Life.{Life}
 use Rattle.talk_core.specs.declared.ended.Why.{Why}
@@ -13,10 +17,13 @@ use Rattle.conn_core.specs.declared.place.At.{At}
 use Rattle.conn_core.specs.declared.place.At.TheVariants as at
 use Rattle.conn_core.specs.declared.state.State.{State}
 use Rattle.conn_core.specs.Place.{state_at}
+use Rattle.conn_core.specs.Rests.{after_of}
 
 -- what a connection shows: the peer, the local side and its lives; how many requests were run, and, while it isn't
 -- Over, to how many of them the reply was sent whole (where it is Over, that number is `calls` and says nothing); how
--- many bytes were read, up to 2^64 - 1; the bytes that are owed; its state; and, where that is Over, why
+-- many bytes were read, up to 2^64 - 1; the bytes that are owed; its state; where that is Over, why; where it is
+-- Ready, the refusal that stands, or none where a request does; the bytes that are held, which were read and not fed;
+-- what becomes of the connection behind what is owed; and that no memory is wanted to make the rest of it
 pub record Shown : Type 0 where
   pub peer : List ℕ
   pub local : Local
@@ -27,6 +34,10 @@ pub record Shown : Type 0 where
   pub owed : List ℕ
   pub state : State
   pub why : Option Why
+  pub fault : Option Fault
+  pub held : List ℕ
+  pub after : After
+  pub sure : Bool
 
 -- how many replies to requests were sent whole at this place, behind so many runs, while the connection isn't over
 abbrev pub replied_at : {B H : Type 0} → At B H → ℕ → ℕ
@@ -35,7 +46,11 @@ replied_at {B} {H} at.Asked calls = calls
 replied_at {B} {H} (at.Refused f) calls = calls
 replied_at {B} {H} (at.Answering f) calls = calls - 1
 replied_at {B} {H} (at.Writing keeps) calls = calls - 1
+replied_at {B} {H} (at.Handing h) calls = calls - 1
 replied_at {B} {H} at.Refusing calls = calls
+replied_at {B} {H} (at.Taken h) calls = calls
+replied_at {B} {H} (at.Speaking h) calls = calls
+replied_at {B} {H} at.Parting calls = calls
 replied_at {B} {H} (at.Over why) calls = calls
 
 -- what is owed at this place, with these bytes in the ring
@@ -45,7 +60,11 @@ owed_at {B} {H} at.Asked ring = ring
 owed_at {B} {H} (at.Refused f) ring = ring
 owed_at {B} {H} (at.Answering f) ring = ring ++ f.rest.bytes
 owed_at {B} {H} (at.Writing keeps) ring = ring
+owed_at {B} {H} (at.Handing h) ring = ring
 owed_at {B} {H} at.Refusing ring = ring
+owed_at {B} {H} (at.Taken h) ring = ring
+owed_at {B} {H} (at.Speaking h) ring = ring
+owed_at {B} {H} at.Parting ring = ring
 owed_at {B} {H} (at.Over why) ring = []
 
 abbrev pub why_at : {B H : Type 0} → At B H → Option Why
@@ -54,8 +73,54 @@ why_at {B} {H} at.Asked = None
 why_at {B} {H} (at.Refused f) = None
 why_at {B} {H} (at.Answering f) = None
 why_at {B} {H} (at.Writing keeps) = None
+why_at {B} {H} (at.Handing h) = None
 why_at {B} {H} at.Refusing = None
+why_at {B} {H} (at.Taken h) = None
+why_at {B} {H} (at.Speaking h) = None
+why_at {B} {H} at.Parting = None
 why_at {B} {H} (at.Over why) = Some why
+
+-- the refusal that stands at this place
+abbrev pub fault_at : {B H : Type 0} → At B H → Option Fault
+fault_at {B} {H} at.Reading = None
+fault_at {B} {H} at.Asked = None
+fault_at {B} {H} (at.Refused f) = Some f
+fault_at {B} {H} (at.Answering f) = None
+fault_at {B} {H} (at.Writing keeps) = None
+fault_at {B} {H} (at.Handing h) = None
+fault_at {B} {H} at.Refusing = None
+fault_at {B} {H} (at.Taken h) = None
+fault_at {B} {H} (at.Speaking h) = None
+fault_at {B} {H} at.Parting = None
+fault_at {B} {H} (at.Over why) = None
+
+-- what becomes of the connection behind what is owed at this place; where nothing is owed, it goes on
+abbrev pub after_at : {B H : Type 0} → At B H → After
+after_at {B} {H} at.Reading = Keep
+after_at {B} {H} at.Asked = Keep
+after_at {B} {H} (at.Refused f) = Keep
+after_at {B} {H} (at.Answering f) = body_after f.rest.rule f.after
+after_at {B} {H} (at.Writing keeps) = after_of keeps
+after_at {B} {H} (at.Handing h) = Hijack
+after_at {B} {H} at.Refusing = Close
+after_at {B} {H} (at.Taken h) = Keep
+after_at {B} {H} (at.Speaking h) = Keep
+after_at {B} {H} at.Parting = Close
+after_at {B} {H} (at.Over why) = Keep
+
+-- to make the rest of what is owed wants no memory: all of it is in the ring, or the body never wants any
+abbrev pub sure_at : {B H : Type 0} → At B H → Bool
+sure_at {B} {H} at.Reading = true
+sure_at {B} {H} at.Asked = true
+sure_at {B} {H} (at.Refused f) = true
+sure_at {B} {H} (at.Answering f) = f.rest.sure
+sure_at {B} {H} (at.Writing keeps) = true
+sure_at {B} {H} (at.Handing h) = true
+sure_at {B} {H} at.Refusing = true
+sure_at {B} {H} (at.Taken h) = true
+sure_at {B} {H} (at.Speaking h) = true
+sure_at {B} {H} at.Parting = true
+sure_at {B} {H} (at.Over why) = true
 
 abbrev pub shows : {B H : Type 0} {g : Ghosts B} → Inside B H g → Shown
 shows {B} {H} {g} p = record {
@@ -68,6 +133,10 @@ shows {B} {H} {g} p = record {
   owed = owed_at p.at p.ring.items;
   state = state_at p.at;
   why = why_at p.at;
+  fault = fault_at p.at;
+  held = p.held;
+  after = after_at p.at;
+  sure = sure_at p.at;
 }
 
 abbrev pub shown : {L B H : Type 0} {g : Ghosts B} → Conn L B H g → Shown

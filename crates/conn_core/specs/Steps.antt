@@ -1,8 +1,10 @@
 -- What the steps of a connection do to the parts that they change. This serves inner contracts alone.
-use Rattle.std.specs.Prelude.{◌≡◌, ◌≢◌, ◌↔◌, ◌<◌, ℕ, Bool, true, false, IsTrue, List, [], ◌++◌, length, drop, Ok, Err, ⊤}
+use Rattle.std.specs.Prelude.{◌≡◌, ◌≢◌, ◌<◌, ℕ, Bool, true, false, List, [], ◌++◌, length, drop, Some, Ok, Err, ⊤}
 use Rattle.std.specs.declared.alloc.AllocError.{AllocError}
 use Rattle.circular_buffer.specs.Buffer.{Buffer}
+use Rattle.hijack_core.specs.Said.{GoesOnAs}
 use Rattle.rack_types.specs.declared.answer.Answer.{Answer}
+use Rattle.rack_types.specs.declared.answer.Answer.TheVariants as answer
 use Rattle.rack_types.specs.Body.{Content}
 use Rattle.rack_types.specs.Env.{Pairs}
 use Rattle.rack_outside.specs.Link.{Seen, marked}
@@ -14,15 +16,17 @@ use Rattle.rack_outside.specs.declared.link.LinkWrite.TheVariants as write
 use Rattle.message_framing.specs.declared.intake.Feed.TheVariants as feed
 use Rattle.message_framing.specs.declared.intake.Intake.{Intake}
 use Rattle.message_framing.specs.Intake.{Fed, StandsWhole, AnswersRightly, RefusesMemory}
-use Rattle.reply_framing.specs.declared.types.After.TheVariants.{Keep, Hijack}
+use Rattle.reply_framing.specs.declared.types.After.TheVariants.{Hijack}
 use Rattle.reply_framing.specs.declared.types.Ask.{Ask}
 use Rattle.reply_framing.specs.declared.types.Filled.{Filled}
 use Rattle.reply_framing.specs.declared.types.Filled.TheVariants.{Full}
 use Rattle.reply_framing.specs.Coming.{Coming}
 use Rattle.reply_framing.specs.Fills.{Fills, after_then}
 use Rattle.reply_framing.specs.Owes.{StandsFor}
-use Rattle.reply_framing.specs.Reply.{reply, body_after}
+use Rattle.reply_framing.specs.Reply.{WholeReply, reply}
 use Rattle.talk_core.specs.declared.ended.Why.TheVariants as why
+use Rattle.talk_core.specs.Tail.{Voice}
+use Rattle.conn_core.specs.Rests.{after_of}
 use Rattle.conn_core.specs.declared.place.At.{At}
 use Rattle.conn_core.specs.declared.place.At.TheVariants as at
 
@@ -61,18 +65,52 @@ FeedsHeld {B} {H} old held new left at.Asked = (n : ℕ) × AnswersRightly old h
 FeedsHeld {B} {H} old held new left (at.Refused f) = AnswersRightly old held (feed.Refused f) new × (left ≡ [])
 FeedsHeld {B} {H} old held new left (at.Answering f) = ⊥
 FeedsHeld {B} {H} old held new left (at.Writing keeps) = ⊥
+FeedsHeld {B} {H} old held new left (at.Handing h) = ⊥
 FeedsHeld {B} {H} old held new left at.Refusing = ⊥
+FeedsHeld {B} {H} old held new left (at.Taken h) = ⊥
+FeedsHeld {B} {H} old held new left (at.Speaking h) = ⊥
+FeedsHeld {B} {H} old held new left at.Parting = ⊥
 FeedsHeld {B} {H} old held new left (at.Over why.NoMemory) = RefusesMemory old held new
 FeedsHeld {B} {H} old held new left (at.Over ended) = ⊥
 
--- the reply to this answer begins, or memory was refused
+-- the reply says nothing, and hands the connection to this hijacker
+pub record HandsOver {H : Type 0} (h : H) (r : WholeReply H) : Type 0 where
+  pub bytes : r.bytes ≡ []
+  pub after : r.after ≡ Hijack
+  pub hijacker : r.hijacker ≡ Some h
+
+-- the whole reply is left to a hijacker
+abbrev pub TakesAll : {H : Type 0} → Answer Content H → Type 0
+TakesAll (answer.Reply status headers body part) = ⊥
+TakesAll (answer.Raised text) = ⊥
+TakesAll (answer.Taken hijacker) = ⊤
+
+-- a framer that hands the connection over is spent, and its hijacker is at hand; another begins to say
+abbrev pub BeginsTaken : {B H : Type 0} → Coming H → At B H → Type 0
+BeginsTaken {B} {H} f at.Reading = ⊥
+BeginsTaken {B} {H} f at.Asked = ⊥
+BeginsTaken {B} {H} f (at.Refused fault) = ⊥
+BeginsTaken {B} {H} f (at.Answering new) = (new ≡ f) × (f.after ≢ Hijack)
+BeginsTaken {B} {H} f (at.Writing keeps) = ⊥
+BeginsTaken {B} {H} f (at.Handing h) = (f.after ≡ Hijack) × (f.hijacker ≡ Some h)
+BeginsTaken {B} {H} f at.Refusing = ⊥
+BeginsTaken {B} {H} f (at.Taken h) = ⊥
+BeginsTaken {B} {H} f (at.Speaking h) = ⊥
+BeginsTaken {B} {H} f at.Parting = ⊥
+BeginsTaken {B} {H} f (at.Over ended) = ⊥
+
+-- the reply to this answer begins; or it says nothing, and a hijacker takes the connection over; or memory was refused
 abbrev pub BeginsAt : {B H : Type 0} → Ask → Pairs → Answer Content H → Bool → At B H → Type 0
 BeginsAt {B} {H} ask ps a last at.Reading = ⊥
 BeginsAt {B} {H} ask ps a last at.Asked = ⊥
 BeginsAt {B} {H} ask ps a last (at.Refused f) = ⊥
-BeginsAt {B} {H} ask ps a last (at.Answering f) = StandsFor f (reply ask ps a last)
+BeginsAt {B} {H} ask ps a last (at.Answering f) = StandsFor f (reply ask ps a last) × (0 < length f.rest.bytes)
 BeginsAt {B} {H} ask ps a last (at.Writing keeps) = ⊥
+BeginsAt {B} {H} ask ps a last (at.Handing h) = HandsOver h (reply ask ps a last)
 BeginsAt {B} {H} ask ps a last at.Refusing = ⊥
+BeginsAt {B} {H} ask ps a last (at.Taken h) = ⊥
+BeginsAt {B} {H} ask ps a last (at.Speaking h) = ⊥
+BeginsAt {B} {H} ask ps a last at.Parting = ⊥
 BeginsAt {B} {H} ask ps a last (at.Over why.NoMemory) = ⊤
 BeginsAt {B} {H} ask ps a last (at.Over ended) = ⊥
 
@@ -84,8 +122,32 @@ pub record Written {H : Type 0} (f : Coming H) (before : Buffer ℕ) (keeps : Bo
   pub fills : Fills f.rest (Ok result) new.rest before after
   pub after_is : new.after ≡ after_then (Ok result) f.after
   pub hijacker_is : new.hijacker ≡ f.hijacker
-  pub keeps_is : IsTrue keeps ↔ (new.after ≡ Keep)
-  pub untaken : new.after ≢ Hijack
+  pub keeps_is : after_of keeps ≡ new.after
+
+-- the same of a reply that hands the connection to this hijacker
+pub record WrittenTo {H : Type 0} (f : Coming H) (before : Buffer ℕ) (h : H) (after : Buffer ℕ) : Type 0 where
+  pub new : Coming H
+  pub result : Filled
+  pub unfilled : result ≢ Full
+  pub fills : Fills f.rest (Ok result) new.rest before after
+  pub after_is : new.after ≡ after_then (Ok result) f.after
+  pub hijacker_is : new.hijacker ≡ f.hijacker
+  pub taken : new.after ≡ Hijack
+  pub who : new.hijacker ≡ Some h
+
+-- a framer that has no more to append is spent: what becomes of the connection is at hand
+abbrev pub IsWritten : {B H : Type 0} → Coming H → At B H → Type 0
+IsWritten {B} {H} f at.Reading = ⊥
+IsWritten {B} {H} f at.Asked = ⊥
+IsWritten {B} {H} f (at.Refused fault) = ⊥
+IsWritten {B} {H} f (at.Answering new) = ⊥
+IsWritten {B} {H} f (at.Writing keeps) = after_of keeps ≡ f.after
+IsWritten {B} {H} f (at.Handing h) = (f.after ≡ Hijack) × (f.hijacker ≡ Some h)
+IsWritten {B} {H} f at.Refusing = ⊥
+IsWritten {B} {H} f (at.Taken h) = ⊥
+IsWritten {B} {H} f (at.Speaking h) = ⊥
+IsWritten {B} {H} f at.Parting = ⊥
+IsWritten {B} {H} f (at.Over ended) = ⊥
 
 -- the ring was filled from what was left of a reply, and is full; or all of it was appended; or memory was refused
 abbrev pub FillsFrom : {B H : Type 0} → Coming H → Buffer ℕ → At B H → Buffer ℕ → Type 0
@@ -95,7 +157,11 @@ FillsFrom {B} {H} f before (at.Refused fault) after = ⊥
 FillsFrom {B} {H} f before (at.Answering new) after =
     Fills f.rest (Ok Full) new.rest before after × (new.after ≡ f.after) × (new.hijacker ≡ f.hijacker)
 FillsFrom {B} {H} f before (at.Writing keeps) after = Written f before keeps after
+FillsFrom {B} {H} f before (at.Handing h) after = WrittenTo f before h after
 FillsFrom {B} {H} f before at.Refusing after = ⊥
+FillsFrom {B} {H} f before (at.Taken h) after = ⊥
+FillsFrom {B} {H} f before (at.Speaking h) after = ⊥
+FillsFrom {B} {H} f before at.Parting after = ⊥
 FillsFrom {B} {H} f before (at.Over why.NoMemory) after =
     (new : Coming H) × (e : AllocError) × Fills f.rest (Err e) new.rest before after
 FillsFrom {B} {H} f before (at.Over ended) after = ⊥
@@ -107,18 +173,12 @@ FillsTo {B} {H} at.Asked before new after = (new ≡ at.Asked) × (after ≡ bef
 FillsTo {B} {H} (at.Refused f) before new after = (new ≡ at.Refused f) × (after ≡ before)
 FillsTo {B} {H} (at.Answering f) before new after = FillsFrom f before new after
 FillsTo {B} {H} (at.Writing keeps) before new after = (new ≡ at.Writing keeps) × (after ≡ before)
+FillsTo {B} {H} (at.Handing h) before new after = (new ≡ at.Handing h) × (after ≡ before)
 FillsTo {B} {H} at.Refusing before new after = (new ≡ at.Refusing) × (after ≡ before)
+FillsTo {B} {H} (at.Taken h) before new after = (new ≡ at.Taken h) × (after ≡ before)
+FillsTo {B} {H} (at.Speaking h) before new after = (new ≡ at.Speaking h) × (after ≡ before)
+FillsTo {B} {H} at.Parting before new after = (new ≡ at.Parting) × (after ≡ before)
 FillsTo {B} {H} (at.Over ended) before new after = (new ≡ at.Over ended) × (after ≡ before)
-
--- no hijacker takes over behind a reply that is under way at this place
-abbrev pub IsUntakenAt : {B H : Type 0} → At B H → Type 0
-IsUntakenAt {B} {H} at.Reading = ⊤
-IsUntakenAt {B} {H} at.Asked = ⊤
-IsUntakenAt {B} {H} (at.Refused f) = ⊤
-IsUntakenAt {B} {H} (at.Answering f) = body_after f.rest.rule f.after ≢ Hijack
-IsUntakenAt {B} {H} (at.Writing keeps) = ⊤
-IsUntakenAt {B} {H} at.Refusing = ⊤
-IsUntakenAt {B} {H} (at.Over ended) = ⊤
 
 -- behind the reply at this place a whole request stands, where the connection goes on
 abbrev pub HasRequest : {B H : Type 0} → At B H → Intake → Type 0
@@ -128,21 +188,103 @@ HasRequest {B} {H} (at.Refused f) intake = ⊤
 HasRequest {B} {H} (at.Answering f) intake = ⊤
 HasRequest {B} {H} (at.Writing true) intake = StandsWhole intake
 HasRequest {B} {H} (at.Writing false) intake = ⊤
+HasRequest {B} {H} (at.Handing h) intake = ⊤
 HasRequest {B} {H} at.Refusing intake = ⊤
+HasRequest {B} {H} (at.Taken h) intake = ⊤
+HasRequest {B} {H} (at.Speaking h) intake = ⊤
+HasRequest {B} {H} at.Parting intake = ⊤
 HasRequest {B} {H} (at.Over ended) intake = ⊤
 
 -- the intake and the bytes held are as before
 abbrev pub Untouched : Intake → List ℕ → Intake → List ℕ → Type 0
 Untouched old held new left = (new ≡ old) × (left ≡ held)
 
--- the link took all of the ring: the connection goes on with the bytes held, or ends; or more of the reply comes
-abbrev pub CompletesTo : {B H : Type 0} → At B H → Intake → List ℕ → At B H → Intake → List ℕ → Type 0
-CompletesTo {B} {H} at.Reading old held then new left = (then ≡ at.Reading) × Untouched old held new left
-CompletesTo {B} {H} at.Asked old held then new left = (then ≡ at.Asked) × Untouched old held new left
-CompletesTo {B} {H} (at.Refused f) old held then new left = (then ≡ at.Refused f) × Untouched old held new left
-CompletesTo {B} {H} (at.Answering f) old held then new left = (then ≡ at.Answering f) × Untouched old held new left
-CompletesTo {B} {H} (at.Writing true) old held then new left =
-    (fresh : Intake) × Fed fresh [] × FeedsHeld fresh held new left then
-CompletesTo {B} {H} (at.Writing false) old held then new left = (then ≡ at.Over why.Closed) × Untouched old held new left
-CompletesTo {B} {H} at.Refusing old held then new left = (then ≡ at.Over why.Closed) × Untouched old held new left
-CompletesTo {B} {H} (at.Over ended) old held then new left = (then ≡ at.Over ended) × Untouched old held new left
+-- a hijacker that goes on was told these bytes, and this one is behind them; what it said is in the ring, and no byte
+-- is held any more
+pub record GoesOnTo {H : Type 0} (V : Voice H) (h : H) (piece : List ℕ) (now : H) (ring left : List ℕ) : Type 0 where
+  pub ring_is : ring ≡ (V.says h piece).bytes
+  pub goes : (V.says h piece).go_on ≡ true
+  pub as : GoesOnAs (V.says h) (V.ends h) piece (V.says now) (V.ends now)
+  pub left_is : left ≡ []
+
+-- one that doesn't go on
+pub record StopsTo {H : Type 0} (V : Voice H) (h : H) (piece ring : List ℕ) : Type 0 where
+  pub ring_is : ring ≡ (V.says h piece).bytes
+  pub stops : (V.says h piece).go_on ≡ false
+
+-- a hijacker was told these bytes, with nothing in the ring; or memory was refused
+abbrev pub Tells : {B H : Type 0} → Voice H → H → List ℕ → At B H → List ℕ → List ℕ → Type 0
+Tells {B} {H} V h piece at.Reading ring left = ⊥
+Tells {B} {H} V h piece at.Asked ring left = ⊥
+Tells {B} {H} V h piece (at.Refused f) ring left = ⊥
+Tells {B} {H} V h piece (at.Answering f) ring left = ⊥
+Tells {B} {H} V h piece (at.Writing keeps) ring left = ⊥
+Tells {B} {H} V h piece (at.Handing now) ring left = ⊥
+Tells {B} {H} V h piece at.Refusing ring left = ⊥
+Tells {B} {H} V h piece (at.Taken now) ring left = GoesOnTo V h piece now ring left × (ring ≡ [])
+Tells {B} {H} V h piece (at.Speaking now) ring left = GoesOnTo V h piece now ring left × (0 < length ring)
+Tells {B} {H} V h piece at.Parting ring left = StopsTo V h piece ring × (0 < length ring)
+Tells {B} {H} V h piece (at.Over why.NoMemory) ring left = ⊤
+Tells {B} {H} V h piece (at.Over why.Hijacked) ring left = StopsTo V h piece [] × (ring ≡ [])
+Tells {B} {H} V h piece (at.Over ended) ring left = ⊥
+
+-- a hijacker was told the peer's end, with nothing in the ring; or memory was refused
+abbrev pub TellsEnd : {B H : Type 0} → Voice H → H → At B H → List ℕ → Type 0
+TellsEnd {B} {H} V h at.Reading ring = ⊥
+TellsEnd {B} {H} V h at.Asked ring = ⊥
+TellsEnd {B} {H} V h (at.Refused f) ring = ⊥
+TellsEnd {B} {H} V h (at.Answering f) ring = ⊥
+TellsEnd {B} {H} V h (at.Writing keeps) ring = ⊥
+TellsEnd {B} {H} V h (at.Handing now) ring = ⊥
+TellsEnd {B} {H} V h at.Refusing ring = ⊥
+TellsEnd {B} {H} V h (at.Taken now) ring = ⊥
+TellsEnd {B} {H} V h (at.Speaking now) ring = ⊥
+TellsEnd {B} {H} V h at.Parting ring = (ring ≡ V.ends h []) × (0 < length ring)
+TellsEnd {B} {H} V h (at.Over why.NoMemory) ring = ⊤
+TellsEnd {B} {H} V h (at.Over why.Hijacked) ring = (V.ends h [] ≡ []) × (ring ≡ [])
+TellsEnd {B} {H} V h (at.Over ended) ring = ⊥
+
+-- the hijacker at this place was told the bytes held; the other places stay as they are
+abbrev pub HandsOn : {B H : Type 0} → Voice H → At B H → List ℕ → List ℕ → At B H → List ℕ → List ℕ → Type 0
+HandsOn {B} {H} V at.Reading held before then after left = (then ≡ at.Reading) × (after ≡ before) × (left ≡ held)
+HandsOn {B} {H} V at.Asked held before then after left = (then ≡ at.Asked) × (after ≡ before) × (left ≡ held)
+HandsOn {B} {H} V (at.Refused f) held before then after left = (then ≡ at.Refused f) × (after ≡ before) × (left ≡ held)
+HandsOn {B} {H} V (at.Answering f) held before then after left = (then ≡ at.Answering f) × (after ≡ before) × (left ≡ held)
+HandsOn {B} {H} V (at.Writing keeps) held before then after left = (then ≡ at.Writing keeps) × (after ≡ before) × (left ≡ held)
+HandsOn {B} {H} V (at.Handing h) held before then after left = Tells V h held then after left
+HandsOn {B} {H} V at.Refusing held before then after left = (then ≡ at.Refusing) × (after ≡ before) × (left ≡ held)
+HandsOn {B} {H} V (at.Taken h) held before then after left = Tells V h held then after left
+HandsOn {B} {H} V (at.Speaking h) held before then after left = (then ≡ at.Speaking h) × (after ≡ before) × (left ≡ held)
+HandsOn {B} {H} V at.Parting held before then after left = (then ≡ at.Parting) × (after ≡ before) × (left ≡ held)
+HandsOn {B} {H} V (at.Over ended) held before then after left = (then ≡ at.Over ended) × (after ≡ before) × (left ≡ held)
+
+-- the hijacker at this place, where one has the connection, was told the peer's end
+abbrev pub EndsOn : {B H : Type 0} → Voice H → At B H → At B H → List ℕ → Type 0
+EndsOn {B} {H} V at.Reading then ring = ⊤
+EndsOn {B} {H} V at.Asked then ring = ⊤
+EndsOn {B} {H} V (at.Refused f) then ring = ⊤
+EndsOn {B} {H} V (at.Answering f) then ring = ⊤
+EndsOn {B} {H} V (at.Writing keeps) then ring = ⊤
+EndsOn {B} {H} V (at.Handing h) then ring = ⊤
+EndsOn {B} {H} V at.Refusing then ring = ⊤
+EndsOn {B} {H} V (at.Taken h) then ring = TellsEnd V h then ring
+EndsOn {B} {H} V (at.Speaking h) then ring = ⊤
+EndsOn {B} {H} V at.Parting then ring = ⊤
+EndsOn {B} {H} V (at.Over ended) then ring = ⊤
+
+-- the link took all of the ring: the connection goes on with the bytes held, or is handed to a hijacker that is told
+-- them, or ends; or more of the reply comes
+abbrev pub CompletesTo : {B H : Type 0} → Voice H → At B H → Intake → List ℕ → At B H → Intake → List ℕ → List ℕ → Type 0
+CompletesTo {B} {H} V at.Reading old held then new left ring = (then ≡ at.Reading) × Untouched old held new left × (ring ≡ [])
+CompletesTo {B} {H} V at.Asked old held then new left ring = (then ≡ at.Asked) × Untouched old held new left × (ring ≡ [])
+CompletesTo {B} {H} V (at.Refused f) old held then new left ring = (then ≡ at.Refused f) × Untouched old held new left × (ring ≡ [])
+CompletesTo {B} {H} V (at.Answering f) old held then new left ring = (then ≡ at.Answering f) × Untouched old held new left × (ring ≡ [])
+CompletesTo {B} {H} V (at.Writing true) old held then new left ring =
+    (fresh : Intake) × Fed fresh [] × FeedsHeld fresh held new left then × (ring ≡ [])
+CompletesTo {B} {H} V (at.Writing false) old held then new left ring = (then ≡ at.Over why.Closed) × Untouched old held new left × (ring ≡ [])
+CompletesTo {B} {H} V (at.Handing h) old held then new left ring = Tells V h held then ring left
+CompletesTo {B} {H} V at.Refusing old held then new left ring = (then ≡ at.Over why.Closed) × Untouched old held new left × (ring ≡ [])
+CompletesTo {B} {H} V (at.Taken h) old held then new left ring = (then ≡ at.Taken h) × Untouched old held new left × (ring ≡ [])
+CompletesTo {B} {H} V (at.Speaking h) old held then new left ring = (then ≡ at.Taken h) × Untouched old held new left × (ring ≡ [])
+CompletesTo {B} {H} V at.Parting old held then new left ring = (then ≡ at.Over why.Hijacked) × Untouched old held new left × (ring ≡ [])
+CompletesTo {B} {H} V (at.Over ended) old held then new left ring = (then ≡ at.Over ended) × Untouched old held new left × (ring ≡ [])

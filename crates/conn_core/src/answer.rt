@@ -4,21 +4,21 @@ ghost use Rattle.rack_types.specs.Env.{Pairs};
 ghost use Rattle.rack_types.specs.Request.{Parts};
 ghost use Rattle.rack_env.specs.Environment.{env_pairs};
 ghost use Rattle.rack_outside.specs.Link.{Seen};
-ghost use Rattle.reply_framing.specs.Hands.{HandsToNobody};
-ghost use Rattle.talk_core.specs.Tail.{Voice};
 ghost use Rattle.talk_core.specs.Teller.{Teller, reply_of, is_last};
 ghost use Rattle.conn_core.specs.Holds.{HoldsBy};
-ghost use Rattle.conn_core.specs.Inner.{runs_of, TellsBy, TakesUp, work};
-ghost use Rattle.conn_core.specs.Moves.{Starts, NamesFault};
+ghost use Rattle.conn_core.specs.Inner.{runs_of, TellsBy, RunsOnce, TakesUp, work};
+ghost use Rattle.conn_core.specs.Moves.{NamesFault};
 ghost use Rattle.conn_core.specs.Place.{state_at};
 ghost use Rattle.conn_core.specs.Runs.{RunsBy};
 ghost use Rattle.conn_core.specs.Shown.{shows};
 
+use crate::hijack::hand_on;
 use crate::inside::Inside;
 use crate::left::Left;
 use crate::place::{At, put};
 use crate::state::State;
 use crate::steps::{prepare, run};
+use hijack_core::Hijack;
 use rack_types::{Body, Fault, Runner};
 use reply_framing::put_fault;
 use talk_core::Why;
@@ -26,18 +26,17 @@ use talk_core::Why;
 // The number of the last request, counted from 0.
 const LAST: u64 = 9_999;
 
-impl<B: Body, H: Drop> Inside<B, H> {
-    // Runs the request that stands, and begins its reply. It tells whether the run was made.
+impl<B: Body, H: Hijack + Drop> Inside<B, H> {
+    // Runs the request that stands, and begins its reply, or hands the connection to a hijacker. It tells whether the run
+    // was made.
     fn answer<R: Runner<B, H>>(&mut self, runner: &mut R) -> bool
         requires at { self.old.at ≡ At.Asked }
         requires room { R.runs runner.old < 2 ^ 64 - 1 }
-        requires untaken { (ps : Pairs) (input : List ℕ) → HandsToNobody (R.answer runner.old ps input) }
-        ensures holds { (V : Voice H) (T : Teller H) (s : Seen)
+        ensures holds { (T : Teller H) (s : Seen)
             → ((r : Parts) → T self.old.calls r ≡ reply_of (R.answer runner.old) (env_pairs r self.old.peer self.old.local) r (is_last None self.old.calls))
-            → HoldsBy V T s self.old → HoldsBy V T s self.new }
-        ensures any { (V : Voice H) (T : Teller H) (s : Seen) → HoldsBy V T s self.old → RunsBy V T self.old.calls s self.new }
-        ensures starts { Starts (runs_of result) (shows self.old) (shows self.new) }
-        ensures unrun { result ≡ false → state_at self.new.at ≡ State.Over }
+            → HoldsBy (record { says = H.says; ends = H.ends }) T s self.old → HoldsBy (record { says = H.says; ends = H.ends }) T s self.new }
+        ensures any { (T : Teller H) (s : Seen) → HoldsBy (record { says = H.says; ends = H.ends }) T s self.old → RunsBy (record { says = H.says; ends = H.ends }) T self.old.calls s self.new }
+        ensures runs { RunsOnce result (shows self.old) (shows self.new) }
         ensures counts { R.runs runner.new ≡ R.runs runner.old + runs_of result }
         ensures steady { R.steady ≡ true → (ps : Pairs) (input : List ℕ) → R.answer runner.new ps input ≡ R.answer runner.old ps input }
     {
@@ -46,6 +45,7 @@ impl<B: Body, H: Drop> Inside<B, H> {
                 let last = self.calls == LAST;
                 let at = run(self.alloc, runner, &mut self.env, ask, last);
                 self.calls += 1;
+                let at = hand_on(at, &mut self.held, &mut self.ring);
                 put(&mut self.at, at);
                 true
             }
@@ -59,9 +59,8 @@ impl<B: Body, H: Drop> Inside<B, H> {
     // Begins the reply that names a refusal.
     fn refuse(&mut self, fault: Fault)
         requires { self.old.at ≡ At.Refused fault }
-        ensures holds { (V : Voice H) (T : Teller H) (s : Seen) → HoldsBy V T s self.old → HoldsBy V T s self.new }
-        ensures starts { Starts 0 (shows self.old) (shows self.new) }
-        ensures names { NamesFault (shows self.old) (shows self.new) }
+        ensures holds { (T : Teller H) (s : Seen) → HoldsBy (record { says = H.says; ends = H.ends }) T s self.old → HoldsBy (record { says = H.says; ends = H.ends }) T s self.new }
+        ensures names { NamesFault fault (shows self.old) (shows self.new) }
     {
         put_fault(fault, &mut self.ring);
         put(&mut self.at, At::Refusing);
@@ -72,11 +71,9 @@ impl<B: Body, H: Drop> Inside<B, H> {
         requires ready { state_at self.old.at ≡ State.Ready }
         requires left { 0 < left.old.runs }
         requires room { R.runs runner.old < 2 ^ 64 - 1 }
-        requires untaken { (ps : Pairs) (input : List ℕ) → HandsToNobody (R.answer runner.old ps input) }
-        ensures holds { (V : Voice H) (T : Teller H) (s : Seen) → TellsBy T (R.answer runner.old) self.old.local self.old.peer
-            → HoldsBy V T s self.old → HoldsBy V T s self.new }
-        ensures any { (V : Voice H) (T : Teller H) (s : Seen) → HoldsBy V T s self.old → RunsBy V T self.old.calls s self.new }
-        ensures starts { Starts (left.old.runs - left.new.runs) (shows self.old) (shows self.new) }
+        ensures holds { (T : Teller H) (s : Seen) → TellsBy T (R.answer runner.old) self.old.local self.old.peer
+            → HoldsBy (record { says = H.says; ends = H.ends }) T s self.old → HoldsBy (record { says = H.says; ends = H.ends }) T s self.new }
+        ensures any { (T : Teller H) (s : Seen) → HoldsBy (record { says = H.says; ends = H.ends }) T s self.old → RunsBy (record { says = H.says; ends = H.ends }) T self.old.calls s self.new }
         ensures takes { TakesUp (left.old.runs - left.new.runs) (shows self.old) (shows self.new) }
         ensures left { left.new ≡ record left.old { runs = left.new.runs } }
         ensures few { left.new.runs ≤ left.old.runs }

@@ -1,5 +1,5 @@
 // What the calls of a connection answer.
-ghost use Rattle.std.specs.Prelude.{◌≡◌};
+ghost use Rattle.std.specs.Prelude.{◌≡◌, ◌==◌, if◌then◌else◌};
 ghost use Rattle.conn_core.specs.Answers.{FedSo, TurnedSo, FlushedSo};
 ghost use Rattle.conn_core.specs.Shown.{replied_at as replied};
 
@@ -13,19 +13,33 @@ pub(crate) fn replied_at<B: Body, H>(at: &At<B, H>, calls: u64) -> u64
     ensures { result ≡ replied at.now calls }
 {
     match at {
-        At::Answering(_) | At::Writing(_) => calls.saturating_sub(1),
-        At::Reading | At::Asked | At::Refused(_) | At::Refusing | At::Over(_) => calls,
+        At::Answering(_) | At::Writing(_) | At::Handing(_) => calls.saturating_sub(1),
+        At::Reading
+        | At::Asked
+        | At::Refused(_)
+        | At::Refusing
+        | At::Taken(_)
+        | At::Speaking(_)
+        | At::Parting
+        | At::Over(_) => calls,
     }
 }
 
-// What a read answers that gave bytes.
+// What a read answers that gave bytes or the peer's end.
 pub(crate) fn fed<B: Body, H>(at: &At<B, H>) -> Next
     ensures { FedSo result at.now }
 {
     match at {
         At::Over(_) => Next::Over,
         At::Asked | At::Refused(_) => Next::Ready,
-        At::Reading | At::Answering(_) | At::Writing(_) | At::Refusing => Next::More,
+        At::Reading
+        | At::Answering(_)
+        | At::Writing(_)
+        | At::Handing(_)
+        | At::Refusing
+        | At::Taken(_)
+        | At::Speaking(_)
+        | At::Parting => Next::More,
     }
 }
 
@@ -40,7 +54,11 @@ pub(crate) fn turned<B: Body, H>(at: &At<B, H>, left: &Left, more: bool) -> Next
         | At::Refused(_)
         | At::Answering(_)
         | At::Writing(_)
-        | At::Refusing => {
+        | At::Handing(_)
+        | At::Refusing
+        | At::Taken(_)
+        | At::Speaking(_)
+        | At::Parting => {
             if left.is_spent() {
                 Next::TurnOver
             } else if left.came > 0 || more {
@@ -52,32 +70,22 @@ pub(crate) fn turned<B: Body, H>(at: &At<B, H>, left: &Left, more: bool) -> Next
     }
 }
 
-// What a flush of so many writes answers.
-pub(crate) fn flushed<B: Body, H>(at: &At<B, H>, writes: u64) -> Next
-    ensures { FlushedSo result at.now writes }
+// What a flush of so many writes answers, which handed the connection to a hijacker or not.
+pub(crate) fn flushed<B: Body, H>(at: &At<B, H>, writes: u64, handed: bool) -> Next
+    ensures { FlushedSo result at.now writes handed }
 {
     match at {
         At::Over(_) => Next::Over,
-        At::Asked | At::Refused(_) => {
-            if writes == 16 {
-                Next::TurnOver
-            } else {
-                Next::Ready
-            }
-        }
-        At::Reading => {
-            if writes == 16 {
-                Next::TurnOver
-            } else {
-                Next::More
-            }
-        }
-        At::Answering(_) | At::Writing(_) | At::Refusing => {
-            if writes == 16 {
-                Next::TurnOver
-            } else {
-                Next::Waiting
-            }
-        }
+        At::Asked | At::Refused(_) => told(writes, Next::Ready),
+        At::Reading | At::Taken(_) => told(writes, Next::More),
+        At::Answering(_) | At::Writing(_) | At::Handing(_) | At::Refusing => told(writes, Next::Waiting),
+        At::Speaking(_) | At::Parting => told(writes, if handed { Next::More } else { Next::Waiting }),
     }
+}
+
+// That the last write was made, or else this.
+fn told(writes: u64, next: Next) -> Next
+    ensures { result ≡ (if writes == 16 then Next.TurnOver else next) }
+{
+    if writes == 16 { Next::TurnOver } else { next }
 }

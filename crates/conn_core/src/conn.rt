@@ -2,12 +2,11 @@
 ghost use Rattle.std.specs.Prelude.{◌≡◌, ◌≢◌, ◌<◌, ◌+◌, ◌-◌, ◌^◌, ◌≤◌, ◌↔◌, [], ◌∷◌, ℕ, List, true, false, None, Some, IfOk, IfErr, IsTrue};
 ghost use Rattle.rack_types.specs.Env.{Pairs};
 ghost use Rattle.rack_types.specs.Limits.{stock_limits};
-ghost use Rattle.reply_framing.specs.Hands.{HandsToNobody};
 ghost use Rattle.talk_core.specs.Ended.{Shows, IsEnded, StandsForTalk};
-ghost use Rattle.talk_core.specs.Tail.{Voice};
 ghost use Rattle.talk_core.specs.Teller.{Stacks, Teller, last_phase};
-ghost use Rattle.conn_core.specs.Calls.{Feeds, Turns, Flushes};
+ghost use Rattle.conn_core.specs.Calls.{Feeds, MayFeed, Turns, Flushes};
 ghost use Rattle.conn_core.specs.Holds.{Holds, HoldsWith};
+ghost use Rattle.conn_core.specs.Moves.{IsOwing};
 ghost use Rattle.conn_core.specs.Plain.{IsPlainEnd};
 ghost use Rattle.conn_core.specs.Runs.{RunsOn};
 ghost use Rattle.conn_core.specs.Shown.{shown, number_of, link_of};
@@ -115,10 +114,10 @@ impl<L: Link, B: Body, H: Hijack + Drop> Conn<L, B, H> {
         self.inside.taken
     }
 
-    /// Whether bytes of a reply are owed.
+    /// Whether bytes are owed, of a reply or of what a hijacker said.
     pub fn wants_write(&self) -> bool
         ensures bytes { IsTrue result ↔ ((shown self.now).owed ≢ []) }
-        ensures state { IsTrue result ↔ ((shown self.now).state ≡ State.Answering) }
+        ensures state { IsTrue result ↔ IsOwing (shown self.now) }
     {
         is_saying(&self.inside.at)
     }
@@ -130,14 +129,15 @@ impl<L: Link, B: Body, H: Hijack + Drop> Conn<L, B, H> {
         &self.link
     }
 
-    /// Makes one read, which offers room for 16,384 bytes, and feeds what came to the reader of requests.
+    /// Makes one read, which offers room for 16,384 bytes, and feeds what came to the reader of requests, or
+    /// tells it, as the peer's end, to the hijacker that has the connection.
     ///
     /// Where memory is refused for what came, the connection is over. `now` is the moment, in milliseconds.
     pub fn feed(&mut self, now: u64) -> Next
-        requires reading { (shown self.old).state ≡ State.Reading }
+        requires reading { MayFeed (shown self.old) }
         ensures number { number_of self.new ≡ number_of self.old }
         ensures feeds { Feeds result (shown self.old) (shown self.new) (L.seen (link_of self.old)) (L.seen (link_of self.new)) }
-        ensures any { (V : Voice H) (T : Teller H) → HoldsWith L.seen V T self.old → HoldsWith L.seen V T self.new }
+        ensures any { (T : Teller H) → HoldsWith L.seen (record { says = H.says; ends = H.ends }) T self.old → HoldsWith L.seen (record { says = H.says; ends = H.ends }) T self.new }
         ensures holds { (S : Stacks H) → Holds L.seen (record { says = H.says; ends = H.ends }) S self.old → Holds L.seen (record { says = H.says; ends = H.ends }) S self.new }
     {
         let _now = now;
@@ -151,23 +151,24 @@ impl<L: Link, B: Body, H: Hijack + Drop> Conn<L, B, H> {
     /// What stands is taken up before anything is read, and what is owed is written before anything is taken
     /// up. A read offers room for 16,384 bytes, and a write the front of what is owed, up to 65,536 bytes.
     ///
+    /// Where a reply hands the connection to a hijacker, that one is told the bytes that are held, and what it
+    /// says is written; nothing is read for it.
+    ///
     /// It makes at most 10 runs, 160 reads and 160 writes. Behind its tenth run it still writes that run's
-    /// reply; behind its 160th read or write it makes no further move, nor behind a read or a write that had
-    /// to wait. It stops only there, or where the connection is over, as where memory is refused.
+    /// reply, and what a hijacker says behind it; behind its 160th read or write it makes no further move, nor
+    /// behind a read or a write that had to wait. It stops only there, where a hijacker has the connection and
+    /// nothing is owed, or where the connection is over, as where memory is refused.
     ///
     /// Whatever the runner answers, each run belongs to the next request. Where it is steady, the
     /// connection goes on standing for its talk over the runner's answers.
-    ///
-    /// No answer of the runner hands the connection to a hijacker.
     pub fn turn<R: Runner<B, H>>(&mut self, runner: &mut R, now: u64) -> Next
         requires ready { (shown self.old).state ≡ State.Ready }
         requires room { R.runs runner.old ≤ 2 ^ 64 - 11 }
-        requires untaken { (r : R) (ps : Pairs) (input : List ℕ) → HandsToNobody (R.answer r ps input) }
         ensures number { number_of self.new ≡ number_of self.old }
         ensures turns { Turns result (shown self.old) (shown self.new) (L.seen (link_of self.old)) (L.seen (link_of self.new)) }
         ensures runs { R.runs runner.new + (shown self.old).calls ≡ R.runs runner.old + (shown self.new).calls }
         ensures steady { R.steady ≡ true → (ps : Pairs) (input : List ℕ) → R.answer runner.new ps input ≡ R.answer runner.old ps input }
-        ensures any { (V : Voice H) (T : Teller H) → HoldsWith L.seen V T self.old → RunsOn L.seen V T (shown self.old).calls self.new }
+        ensures any { (T : Teller H) → HoldsWith L.seen (record { says = H.says; ends = H.ends }) T self.old → RunsOn L.seen (record { says = H.says; ends = H.ends }) T (shown self.old).calls self.new }
         ensures holds { (S : Stacks H) → R.steady ≡ true
             → ((ps : Pairs) (input : List ℕ) → S (last_phase (shown self.old).lives) ps input ≡ R.answer runner.old ps input)
             → Holds L.seen (record { says = H.says; ends = H.ends }) S self.old → Holds L.seen (record { says = H.says; ends = H.ends }) S self.new }
@@ -178,15 +179,19 @@ impl<L: Link, B: Body, H: Hijack + Drop> Conn<L, B, H> {
     }
 
     /// Fills the ring from the reply that is under way and writes all of it, at most 16 times. Where the
-    /// link took all of the reply and the connection goes on, the bytes that are held are fed.
+    /// link took all of the reply and the connection goes on, the bytes that are held are fed, or a hijacker
+    /// that takes the connection over is told them. What a hijacker said is written in the same way.
+    ///
+    /// Memory is taken only where a body is asked for more, where bytes that are held are fed, by a hijacker, and
+    /// by a link in memory.
     ///
     /// It stops only where the link had to wait, where nothing is owed, or behind its 16th write. Where memory
     /// is refused the connection is over. `now` is the moment, in milliseconds.
     pub fn flush(&mut self, now: u64) -> Next
-        requires owes { (shown self.old).state ≡ State.Answering }
+        requires owes { IsOwing (shown self.old) }
         ensures number { number_of self.new ≡ number_of self.old }
         ensures flushes { Flushes result (shown self.old) (shown self.new) (L.seen (link_of self.old)) (L.seen (link_of self.new)) }
-        ensures any { (V : Voice H) (T : Teller H) → HoldsWith L.seen V T self.old → HoldsWith L.seen V T self.new }
+        ensures any { (T : Teller H) → HoldsWith L.seen (record { says = H.says; ends = H.ends }) T self.old → HoldsWith L.seen (record { says = H.says; ends = H.ends }) T self.new }
         ensures holds { (S : Stacks H) → Holds L.seen (record { says = H.says; ends = H.ends }) S self.old → Holds L.seen (record { says = H.says; ends = H.ends }) S self.new }
     {
         let _now = now;

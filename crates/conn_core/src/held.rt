@@ -1,5 +1,5 @@
 // What was read of a link and not fed yet.
-ghost use Rattle.std.specs.Prelude.{◌≡◌, [], drop, IfOk};
+ghost use Rattle.std.specs.Prelude.{◌≡◌, ◌≤◌, [], drop, length, IfOk};
 ghost use Rattle.rack_outside.specs.Link.{IsOneRead};
 ghost use Rattle.conn_core.specs.Moves.{OffersRoom};
 ghost use Rattle.conn_core.specs.Steps.{ReadsInto};
@@ -62,7 +62,8 @@ impl Held {
 
     // The bytes, lent.
     pub(crate) fn bytes(&self) -> &[u8]
-        ensures { result.now ≡ self.now }
+        ensures bytes { result.now ≡ self.now }
+        ensures few { length result.now ≤ 16384 }
     {
         &self.piece[self.from.min(self.to)..self.to]
     }

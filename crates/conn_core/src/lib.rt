@@ -6,6 +6,7 @@ mod answer;
 mod answers;
 mod conn;
 mod held;
+mod hijack;
 mod inside;
 mod left;
 mod place;

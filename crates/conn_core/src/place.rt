@@ -21,8 +21,16 @@ pub(crate) enum At<B: Body, H> {
     Answering(Framer<B, H>),
     // A reply is under way, and what is owed of it is in the ring. Whether the connection goes on behind it.
     Writing(bool),
+    // The head of a reply is in the ring, and the hijacker takes the connection over behind it.
+    Handing(H),
     // The reply that names a refusal is in the ring.
     Refusing,
+    // The hijacker has the connection, and nothing is held or owed.
+    Taken(H),
+    // The same, and what it said is in the ring.
+    Speaking(H),
+    // What a hijacker said last is in the ring.
+    Parting,
     // It ended.
     Over(Why),
 }
@@ -33,7 +41,16 @@ pub(crate) fn close<B: Body, H: Drop>(at: At<B, H>) {
         At::Answering(framer) => {
             let _ = framer.finish();
         }
-        At::Reading | At::Asked | At::Refused(_) | At::Writing(_) | At::Refusing | At::Over(_) => {}
+        At::Reading
+        | At::Asked
+        | At::Refused(_)
+        | At::Writing(_)
+        | At::Handing(_)
+        | At::Refusing
+        | At::Taken(_)
+        | At::Speaking(_)
+        | At::Parting
+        | At::Over(_) => {}
     }
 }
 
@@ -51,17 +68,33 @@ pub(crate) fn state_at<B: Body, H>(at: &At<B, H>) -> State
     match at {
         At::Reading => State::Reading,
         At::Asked | At::Refused(_) => State::Ready,
-        At::Answering(_) | At::Writing(_) | At::Refusing => State::Answering,
+        At::Answering(_) | At::Writing(_) | At::Handing(_) | At::Refusing => State::Answering,
+        At::Taken(_) | At::Speaking(_) | At::Parting => State::Hijacked,
         At::Over(_) => State::Over,
     }
 }
 
-// Whether a reply is under way.
+// Whether bytes are owed.
 pub(crate) fn is_saying<B: Body, H>(at: &At<B, H>) -> bool
     ensures { IsTrue result ↔ IsSaying at.now }
 {
     match at {
-        At::Answering(_) | At::Writing(_) | At::Refusing => true,
-        _ => false,
+        At::Answering(_)
+        | At::Writing(_)
+        | At::Handing(_)
+        | At::Refusing
+        | At::Speaking(_)
+        | At::Parting => true,
+        At::Reading | At::Asked | At::Refused(_) | At::Taken(_) | At::Over(_) => false,
+    }
+}
+
+// Whether a reply is under way.
+pub(crate) fn is_answering<B: Body, H>(at: &At<B, H>) -> bool
+    ensures { IsTrue result ↔ (state_at at.now ≡ State.Answering) }
+{
+    match state_at(at) {
+        State::Answering => true,
+        State::Reading | State::Ready | State::Hijacked | State::Over => false,
     }
 }

@@ -1,27 +1,30 @@
 // One read.
 ghost use Rattle.std.specs.Prelude.{◌≡◌};
-ghost use Rattle.talk_core.specs.Tail.{Voice};
 ghost use Rattle.talk_core.specs.Teller.{Teller};
 ghost use Rattle.conn_core.specs.Calls.{Feeds};
 ghost use Rattle.conn_core.specs.Holds.{HoldsBy};
-ghost use Rattle.conn_core.specs.Inner.{ReadsBy};
+ghost use Rattle.conn_core.specs.Inner.{ReadsBy, HearsBy};
 ghost use Rattle.conn_core.specs.Moves.{ReadsOnce};
+ghost use Rattle.conn_core.specs.Place.{IsHearing, MayRead};
 ghost use Rattle.conn_core.specs.Shown.{shows};
 
 use crate::answers::fed;
+use crate::hijack::{end_on, hand_on};
 use crate::inside::Inside;
-use crate::place::{At, put};
-use crate::state::Next;
+use crate::place::{At, put, state_at};
+use crate::state::{Next, State};
 use crate::steps::feed_held;
+use hijack_core::Hijack;
 use rack_outside::{Link, LinkRead};
 use rack_types::Body;
+use std::mem;
 use talk_core::Why;
 
-impl<B: Body, H: Drop> Inside<B, H> {
+impl<B: Body, H: Hijack + Drop> Inside<B, H> {
     // One read, and what stands then.
     pub(crate) fn read<L: Link>(&mut self, link: &mut L) -> LinkRead
         requires { self.old.at ≡ At.Reading }
-        ensures holds { (V : Voice H) (T : Teller H) → HoldsBy V T (L.seen link.old) self.old → HoldsBy V T (L.seen link.new) self.new }
+        ensures holds { (T : Teller H) → HoldsBy (record { says = H.says; ends = H.ends }) T (L.seen link.old) self.old → HoldsBy (record { says = H.says; ends = H.ends }) T (L.seen link.new) self.new }
         ensures reads { ReadsBy result (shows self.old) (shows self.new) (L.seen link.old) (L.seen link.new) }
         ensures once { ReadsOnce result (shows self.old) (shows self.new) (L.seen link.old) (L.seen link.new) }
     {
@@ -45,16 +48,50 @@ impl<B: Body, H: Drop> Inside<B, H> {
         }
     }
 
+    // One read for the hijacker that has the connection, and what it says to what came.
+    fn hear<L: Link>(&mut self, link: &mut L) -> LinkRead
+        requires { IsHearing self.old.at }
+        ensures holds { (T : Teller H) → HoldsBy (record { says = H.says; ends = H.ends }) T (L.seen link.old) self.old → HoldsBy (record { says = H.says; ends = H.ends }) T (L.seen link.new) self.new }
+        ensures reads { HearsBy result (shows self.old) (shows self.new) (L.seen link.old) (L.seen link.new) }
+        ensures once { ReadsOnce result (shows self.old) (shows self.new) (L.seen link.old) (L.seen link.new) }
+    {
+        let read = self.held.read(link);
+        match read {
+            LinkRead::Bytes(n) => {
+                self.taken = self.taken.saturating_add(n as u64);
+                let at = mem::replace(&mut self.at, At::Refusing);
+                let at = hand_on(at, &mut self.held, &mut self.ring);
+                put(&mut self.at, at);
+                LinkRead::Bytes(n)
+            }
+            LinkRead::NotYet => LinkRead::NotYet,
+            LinkRead::End => {
+                let at = mem::replace(&mut self.at, At::Refusing);
+                let at = end_on(at, &mut self.ring);
+                put(&mut self.at, at);
+                LinkRead::End
+            }
+            LinkRead::Failed => {
+                put(&mut self.at, At::Over(Why::ReadFailed));
+                LinkRead::Failed
+            }
+        }
+    }
+
     // One read, and what it leaves.
     pub(crate) fn feed<L: Link>(&mut self, link: &mut L) -> Next
-        requires { self.old.at ≡ At.Reading }
-        ensures holds { (V : Voice H) (T : Teller H) → HoldsBy V T (L.seen link.old) self.old → HoldsBy V T (L.seen link.new) self.new }
+        requires { MayRead self.old.at }
+        ensures holds { (T : Teller H) → HoldsBy (record { says = H.says; ends = H.ends }) T (L.seen link.old) self.old → HoldsBy (record { says = H.says; ends = H.ends }) T (L.seen link.new) self.new }
         ensures feeds { Feeds result (shows self.old) (shows self.new) (L.seen link.old) (L.seen link.new) }
     {
-        match self.read(link) {
+        let read = match state_at(&self.at) {
+            State::Reading => self.read(link),
+            State::Ready | State::Answering | State::Hijacked | State::Over => self.hear(link),
+        };
+        match read {
             LinkRead::NotYet => Next::Waiting,
-            LinkRead::Bytes(_) => fed(&self.at),
-            LinkRead::End | LinkRead::Failed => Next::Over,
+            LinkRead::Bytes(_) | LinkRead::End => fed(&self.at),
+            LinkRead::Failed => Next::Over,
         }
     }
 }

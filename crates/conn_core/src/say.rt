@@ -1,7 +1,6 @@
 // What is owed is said.
 ghost use Rattle.std.specs.Prelude.{◌≡◌, IsTrue};
 ghost use Rattle.rack_outside.specs.Link.{Seen};
-ghost use Rattle.talk_core.specs.Tail.{Voice};
 ghost use Rattle.talk_core.specs.Teller.{Teller};
 ghost use Rattle.conn_core.specs.Calls.{Flushes};
 ghost use Rattle.conn_core.specs.Holds.{HoldsBy};
@@ -12,20 +11,21 @@ ghost use Rattle.conn_core.specs.Shown.{shows};
 use crate::answers::flushed;
 use crate::inside::Inside;
 use crate::left::Said;
-use crate::place::{At, is_saying, put};
+use crate::place::{At, is_answering, is_saying, put};
 use crate::send::send;
 use crate::state::Next;
 use crate::steps::{complete, fill};
+use hijack_core::Hijack;
 use rack_outside::{Link, LinkWrite};
 use rack_types::Body;
 use std::mem;
 use talk_core::Why;
 
-impl<B: Body, H: Drop> Inside<B, H> {
-    // Fills the ring from the reply that is under way, and tells whether memory sufficed.
+impl<B: Body, H: Hijack + Drop> Inside<B, H> {
+    // Fills the ring from the reply that is under way, if there is one, and tells whether memory sufficed.
     fn fill(&mut self) -> bool
         requires { IsSaying self.old.at }
-        ensures holds { (V : Voice H) (T : Teller H) (s : Seen) → HoldsBy V T s self.old → HoldsBy V T s self.new }
+        ensures holds { (T : Teller H) (s : Seen) → HoldsBy (record { says = H.says; ends = H.ends }) T s self.old → HoldsBy (record { says = H.says; ends = H.ends }) T s self.new }
         ensures fills { FillsShown result (shows self.old) (shows self.new) }
         ensures some { IsTrue result → IsFilledAt self.new.at self.new.ring.items }
     {
@@ -35,10 +35,10 @@ impl<B: Body, H: Drop> Inside<B, H> {
         goes_on
     }
 
-    // One write. Where it took all that was left of a reply, the connection ends or goes on behind it.
+    // One write. Where it took all that was owed, the connection ends or goes on behind it.
     fn write<L: Link>(&mut self, link: &mut L) -> Said
         requires { IsFilledAt self.old.at self.old.ring.items }
-        ensures holds { (V : Voice H) (T : Teller H) → HoldsBy V T (L.seen link.old) self.old → HoldsBy V T (L.seen link.new) self.new }
+        ensures holds { (T : Teller H) → HoldsBy (record { says = H.says; ends = H.ends }) T (L.seen link.old) self.old → HoldsBy (record { says = H.says; ends = H.ends }) T (L.seen link.new) self.new }
         ensures says { Says result (shows self.old) (shows self.new) (L.seen link.old) (L.seen link.new) }
         ensures once { SaysOnce result (shows self.old) (shows self.new) (L.seen link.old) (L.seen link.new) }
     {
@@ -46,7 +46,7 @@ impl<B: Body, H: Drop> Inside<B, H> {
             LinkWrite::Took(_) => {
                 if self.ring.is_empty() {
                     let at = mem::replace(&mut self.at, At::Refusing);
-                    let at = complete(at, &mut self.intake, &mut self.held);
+                    let at = complete(at, &mut self.intake, &mut self.held, &mut self.ring);
                     put(&mut self.at, at);
                     Said::Wrote
                 } else {
@@ -65,10 +65,10 @@ impl<B: Body, H: Drop> Inside<B, H> {
         }
     }
 
-    // Fills the ring and writes once. Where the link took all of a reply, goes on behind it.
+    // Fills the ring and writes once. Where the link took all that was owed, goes on behind it.
     pub(crate) fn say<L: Link>(&mut self, link: &mut L) -> Said
         requires { IsSaying self.old.at }
-        ensures holds { (V : Voice H) (T : Teller H) → HoldsBy V T (L.seen link.old) self.old → HoldsBy V T (L.seen link.new) self.new }
+        ensures holds { (T : Teller H) → HoldsBy (record { says = H.says; ends = H.ends }) T (L.seen link.old) self.old → HoldsBy (record { says = H.says; ends = H.ends }) T (L.seen link.new) self.new }
         ensures says { Says result (shows self.old) (shows self.new) (L.seen link.old) (L.seen link.new) }
         ensures once { SaysOnce result (shows self.old) (shows self.new) (L.seen link.old) (L.seen link.new) }
     {
@@ -82,18 +82,19 @@ impl<B: Body, H: Drop> Inside<B, H> {
     // Fills and writes, at most 16 times.
     pub(crate) fn flush<L: Link>(&mut self, link: &mut L) -> Next
         requires { IsSaying self.old.at }
-        ensures holds { (V : Voice H) (T : Teller H) → HoldsBy V T (L.seen link.old) self.old → HoldsBy V T (L.seen link.new) self.new }
+        ensures holds { (T : Teller H) → HoldsBy (record { says = H.says; ends = H.ends }) T (L.seen link.old) self.old → HoldsBy (record { says = H.says; ends = H.ends }) T (L.seen link.new) self.new }
         ensures flushes { Flushes result (shows self.old) (shows self.new) (L.seen link.old) (L.seen link.new) }
     {
+        let answering = is_answering(&self.at);
         let mut writes = 0;
         loop {
             if writes == 16 || !is_saying(&self.at) {
-                return flushed(&self.at, writes);
+                return flushed(&self.at, writes, answering);
             }
             match self.say(link) {
-                Said::Unwritten => return flushed(&self.at, writes),
+                Said::Unwritten => return flushed(&self.at, writes, answering),
                 Said::Wrote => writes += 1,
-                Said::Waits => return flushed(&self.at, writes + 1),
+                Said::Waits => return flushed(&self.at, writes + 1, answering),
             }
         }
     }

@@ -1,18 +1,19 @@
 // The steps of a connection, each over the parts that it changes.
-ghost use Rattle.std.specs.Prelude.{◌≡◌, ◌≢◌, ◌<◌, ◌+◌, ◌-◌, ◌^◌, ℕ, List, true, ◌↔◌, IsTrue, IfOk};
+ghost use Rattle.std.specs.Prelude.{◌≡◌, [], ◌<◌, ◌+◌, ◌-◌, ◌^◌, ◌↔◌, ℕ, List, true, IsTrue, IfOk};
 ghost use Rattle.rack_types.specs.Answer.{told};
 ghost use Rattle.rack_types.specs.Env.{Pairs};
 ghost use Rattle.rack_types.specs.Request.{Parts};
 ghost use Rattle.rack_env.specs.Environment.{environment};
 ghost use Rattle.message_framing.specs.Intake.{Fed, StandsWhole};
 ghost use Rattle.message_framing.specs.Request.{IsRequest};
-ghost use Rattle.reply_framing.specs.Reply.{body_after};
 ghost use Rattle.talk_core.specs.Teller.{ask_of};
-ghost use Rattle.conn_core.specs.Steps.{FeedsHeld, BeginsAt, FillsFrom, FillsTo, IsUntakenAt, HasRequest, CompletesTo};
+ghost use Rattle.conn_core.specs.Steps.{FeedsHeld, TakesAll, BeginsTaken, BeginsAt, IsWritten, FillsFrom, FillsTo, HasRequest, CompletesTo};
 
 use crate::held::Held;
+use crate::hijack::tell;
 use crate::place::At;
 use circular_buffer::HeapCircularBuffer;
+use hijack_core::Hijack;
 use message_framing::{Feed, Intake};
 use rack_env::refill;
 use rack_types::{Answer, Body, Env, Local, NoMemory, Peer, Runner};
@@ -92,15 +93,42 @@ fn begin<B: Body, H: Drop>(
 ) -> At<B, H>
     ensures { BeginsAt ask env.now.pairs (told B.content answer) last result }
 {
+    let taken = takes_all(&answer);
     match Framer::start(alloc, ask, env, answer, last) {
-        Ok(framer) => At::Answering(framer),
+        Ok(framer) => if taken {
+            begin_taken(framer)
+        } else {
+            At::Answering(framer)
+        },
         Err(_) => At::Over(Why::NoMemory),
+    }
+}
+
+// Whether the answer hands the whole reply to a hijacker.
+fn takes_all<B: Body, H>(answer: &Answer<B, H>) -> bool
+    ensures { IsTrue result ↔ TakesAll (told B.content answer.now) }
+{
+    match answer {
+        Answer::Taken(_) => true,
+        Answer::Reply { .. } | Answer::Raised(_) => false,
+    }
+}
+
+// Begins the reply to an answer that hands the whole of it to a hijacker. One that breaks a rule is a reply of its own.
+fn begin_taken<B: Body, H: Drop>(framer: Framer<B, H>) -> At<B, H>
+    ensures { BeginsTaken framer result }
+{
+    match framer.after() {
+        After::Hijack => match framer.finish() {
+            Some(hijacker) => At::Handing(hijacker),
+            None => unreachable!(),
+        },
+        After::Keep | After::Close => At::Answering(framer),
     }
 }
 
 // Fills the ring from the reply that is under way.
 pub(crate) fn fill<B: Body, H: Drop>(at: At<B, H>, ring: &mut HeapCircularBuffer<u8>) -> At<B, H>
-    requires untaken { IsUntakenAt at }
     ensures { FillsTo at ring.old result ring.new }
 {
     match at {
@@ -114,14 +142,13 @@ fn fill_from<B: Body, H: Drop>(
     mut framer: Framer<B, H>,
     ring: &mut HeapCircularBuffer<u8>,
 ) -> At<B, H>
-    requires untaken { body_after framer.rest.rule framer.after ≢ After.Hijack }
     ensures { FillsFrom framer ring.old result ring.new }
 {
     match framer.fill(ring) {
         Ok(filled) => match filled {
             Filled::Full => At::Answering(framer),
-            Filled::Done => At::Writing(written(framer)),
-            Filled::Broke(_) => At::Writing(written(framer)),
+            Filled::Done => written(framer),
+            Filled::Broke(_) => written(framer),
         },
         Err(_) => {
             let _ = framer.finish();
@@ -130,29 +157,34 @@ fn fill_from<B: Body, H: Drop>(
     }
 }
 
-// Whether the connection goes on behind a framer that has no more to append.
-fn written<B: Body, H: Drop>(framer: Framer<B, H>) -> bool
-    requires untaken { framer.after ≢ After.Hijack }
-    ensures { IsTrue result ↔ (framer.after ≡ After.Keep) }
+// What is behind a framer that has no more to append: the connection goes on or closes, or a hijacker takes it over.
+fn written<B: Body, H: Drop>(framer: Framer<B, H>) -> At<B, H>
+    ensures { IsWritten framer result }
 {
-    let keeps = match framer.after() {
-        After::Keep => true,
-        After::Close | After::Hijack => false,
-    };
+    let after = framer.after();
     match framer.finish() {
-        None => keeps,
-        Some(_) => unreachable!(),
+        Some(hijacker) => At::Handing(hijacker),
+        None => match after {
+            After::Keep => At::Writing(true),
+            After::Close => At::Writing(false),
+            After::Hijack => unreachable!(),
+        },
     }
 }
 
-// Where the link took all of a reply: ends, or goes on behind it with the bytes held.
-pub(crate) fn complete<B: Body, H: Drop>(
+// Where the link took all of the ring: goes on with the bytes held, hands the connection over, or ends; or more of the
+// reply comes.
+pub(crate) fn complete<B: Body, H: Hijack + Drop>(
     at: At<B, H>,
     intake: &mut Intake,
     held: &mut Held,
+    ring: &mut HeapCircularBuffer<u8>,
 ) -> At<B, H>
-    requires { HasRequest at intake.old }
-    ensures { CompletesTo at intake.old held.old result intake.new held.new }
+    requires stands { HasRequest at intake.old }
+    requires empty { ring.old.items ≡ [] }
+    requires room { ring.old.capacity ≡ 65536 }
+    ensures completes { CompletesTo (record { says = H.says; ends = H.ends }) at intake.old held.old result intake.new held.new ring.new.items }
+    ensures room { ring.new.capacity ≡ ring.old.capacity }
 {
     match at {
         At::Writing(keeps) => if keeps {
@@ -161,7 +193,10 @@ pub(crate) fn complete<B: Body, H: Drop>(
         } else {
             At::Over(Why::Closed)
         },
+        At::Handing(hijacker) => tell(hijacker, held, ring),
         At::Refusing => At::Over(Why::Closed),
+        At::Speaking(hijacker) => At::Taken(hijacker),
+        At::Parting => At::Over(Why::Hijacked),
         at => at,
     }
 }

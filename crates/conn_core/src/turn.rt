@@ -1,25 +1,49 @@
 // Requests are answered, one behind the other.
 ghost use Rattle.std.specs.Prelude.{◌≡◌, ◌<◌, ◌≤◌, ◌+◌, ◌-◌, ◌^◌, ℕ, List, true};
 ghost use Rattle.rack_types.specs.Env.{Pairs};
-ghost use Rattle.reply_framing.specs.Hands.{HandsToNobody};
-ghost use Rattle.talk_core.specs.Tail.{Voice};
 ghost use Rattle.talk_core.specs.Teller.{Teller};
 ghost use Rattle.conn_core.specs.Calls.{Turns};
 ghost use Rattle.conn_core.specs.Holds.{HoldsBy};
 ghost use Rattle.conn_core.specs.Inner.{TellsBy, Steps, StepLeaves, StepMoves};
-ghost use Rattle.conn_core.specs.Place.{state_at as place_as};
+ghost use Rattle.conn_core.specs.Place.{IsSaying, state_at as place_as};
 ghost use Rattle.conn_core.specs.Runs.{RunsBy};
 ghost use Rattle.conn_core.specs.Shown.{shows};
 
 use crate::answers::{replied_at, turned};
 use crate::inside::Inside;
 use crate::left::{Left, Said, Step};
-use crate::place::state_at;
+use crate::place::{is_saying, state_at};
 use crate::state::{Next, State};
+use hijack_core::Hijack;
 use rack_outside::{Link, LinkRead};
 use rack_types::{Body, Runner};
 
-impl<B: Body, H: Drop> Inside<B, H> {
+impl<B: Body, H: Hijack + Drop> Inside<B, H> {
+    // One write, where one is left. None is made behind the last read.
+    fn speak<L: Link>(&mut self, link: &mut L, left: &mut Left) -> Step
+        requires says { IsSaying self.old.at }
+        ensures holds { (T : Teller H) → HoldsBy (record { says = H.says; ends = H.ends }) T (L.seen link.old) self.old → HoldsBy (record { says = H.says; ends = H.ends }) T (L.seen link.new) self.new }
+        ensures steps { Steps (shows self.old) (shows self.new) (L.seen link.old) (L.seen link.new) left.old left.new }
+        ensures moves { StepMoves result (shows self.old) (shows self.new) (L.seen link.old) (L.seen link.new) left.old left.new }
+        ensures leaves { StepLeaves result left.old left.new self.old.at self.new.at (L.seen link.old) (L.seen link.new) }
+        ensures runs { left.new.runs ≡ left.old.runs }
+    {
+        if left.reads == 0 || left.writes == 0 {
+            return Step::Stops;
+        }
+        match self.say(link) {
+            Said::Unwritten => Step::GoesOn,
+            Said::Wrote => {
+                left.writes -= 1;
+                Step::GoesOn
+            }
+            Said::Waits => {
+                left.writes -= 1;
+                Step::Waits
+            }
+        }
+    }
+
     // One run, read or write, where one is left.
     fn step<L: Link, R: Runner<B, H>>(
         &mut self,
@@ -28,10 +52,9 @@ impl<B: Body, H: Drop> Inside<B, H> {
         left: &mut Left,
     ) -> Step
         requires room { R.runs runner.old + left.old.runs < 2 ^ 64 }
-        requires untaken { (ps : Pairs) (input : List ℕ) → HandsToNobody (R.answer runner.old ps input) }
-        ensures holds { (V : Voice H) (T : Teller H) → TellsBy T (R.answer runner.old) self.old.local self.old.peer
-            → HoldsBy V T (L.seen link.old) self.old → HoldsBy V T (L.seen link.new) self.new }
-        ensures any { (V : Voice H) (T : Teller H) → HoldsBy V T (L.seen link.old) self.old → RunsBy V T self.old.calls (L.seen link.new) self.new }
+        ensures holds { (T : Teller H) → TellsBy T (R.answer runner.old) self.old.local self.old.peer
+            → HoldsBy (record { says = H.says; ends = H.ends }) T (L.seen link.old) self.old → HoldsBy (record { says = H.says; ends = H.ends }) T (L.seen link.new) self.new }
+        ensures any { (T : Teller H) → HoldsBy (record { says = H.says; ends = H.ends }) T (L.seen link.old) self.old → RunsBy (record { says = H.says; ends = H.ends }) T self.old.calls (L.seen link.new) self.new }
         ensures steps { Steps (shows self.old) (shows self.new) (L.seen link.old) (L.seen link.new) left.old left.new }
         ensures moves { StepMoves result (shows self.old) (shows self.new) (L.seen link.old) (L.seen link.new) left.old left.new }
         ensures leaves { StepLeaves result left.old left.new self.old.at self.new.at (L.seen link.old) (L.seen link.new) }
@@ -39,7 +62,12 @@ impl<B: Body, H: Drop> Inside<B, H> {
         ensures steady { R.steady ≡ true → (ps : Pairs) (input : List ℕ) → R.answer runner.new ps input ≡ R.answer runner.old ps input }
     {
         match state_at(&self.at) {
-            State::Over | State::Hijacked => Step::Stops,
+            State::Over => Step::Stops,
+            State::Hijacked => if is_saying(&self.at) {
+                self.speak(link, left)
+            } else {
+                Step::Stops
+            },
             State::Reading => {
                 if left.is_spent() {
                     return Step::Stops;
@@ -61,22 +89,7 @@ impl<B: Body, H: Drop> Inside<B, H> {
                 self.start(runner, left);
                 Step::GoesOn
             }
-            State::Answering => {
-                if left.reads == 0 || left.writes == 0 {
-                    return Step::Stops;
-                }
-                match self.say(link) {
-                    Said::Unwritten => Step::GoesOn,
-                    Said::Wrote => {
-                        left.writes -= 1;
-                        Step::GoesOn
-                    }
-                    Said::Waits => {
-                        left.writes -= 1;
-                        Step::Waits
-                    }
-                }
-            }
+            State::Answering => self.speak(link, left),
         }
     }
 
@@ -84,10 +97,9 @@ impl<B: Body, H: Drop> Inside<B, H> {
     pub(crate) fn turn<L: Link, R: Runner<B, H>>(&mut self, link: &mut L, runner: &mut R) -> Next
         requires ready { place_as self.old.at ≡ State.Ready }
         requires room { R.runs runner.old ≤ 2 ^ 64 - 11 }
-        requires untaken { (r : R) (ps : Pairs) (input : List ℕ) → HandsToNobody (R.answer r ps input) }
-        ensures holds { R.steady ≡ true → (V : Voice H) (T : Teller H) → TellsBy T (R.answer runner.old) self.old.local self.old.peer
-            → HoldsBy V T (L.seen link.old) self.old → HoldsBy V T (L.seen link.new) self.new }
-        ensures any { (V : Voice H) (T : Teller H) → HoldsBy V T (L.seen link.old) self.old → RunsBy V T self.old.calls (L.seen link.new) self.new }
+        ensures holds { R.steady ≡ true → (T : Teller H) → TellsBy T (R.answer runner.old) self.old.local self.old.peer
+            → HoldsBy (record { says = H.says; ends = H.ends }) T (L.seen link.old) self.old → HoldsBy (record { says = H.says; ends = H.ends }) T (L.seen link.new) self.new }
+        ensures any { (T : Teller H) → HoldsBy (record { says = H.says; ends = H.ends }) T (L.seen link.old) self.old → RunsBy (record { says = H.says; ends = H.ends }) T self.old.calls (L.seen link.new) self.new }
         ensures turns { Turns result (shows self.old) (shows self.new) (L.seen link.old) (L.seen link.new) }
         ensures counts { R.runs runner.new + self.old.calls ≡ R.runs runner.old + self.new.calls }
         ensures steady { R.steady ≡ true → (ps : Pairs) (input : List ℕ) → R.answer runner.new ps input ≡ R.answer runner.old ps input }
