@@ -65,7 +65,11 @@ fed_shown {B} {H} at.Asked calls s s' old new held left over f = record { replie
 fed_shown {B} {H} (at.Refused fault) calls s s' old new held left over f = record { replied = refl; why = tt; ends = over; state = tt }
 fed_shown {B} {H} (at.Answering framer) calls s s' old new held left over f = absurd f
 fed_shown {B} {H} (at.Writing keeps) calls s s' old new held left over f = absurd f
+fed_shown {B} {H} (at.Handing h) calls s s' old new held left over f = absurd f
 fed_shown {B} {H} at.Refusing calls s s' old new held left over f = absurd f
+fed_shown {B} {H} (at.Taken h) calls s s' old new held left over f = absurd f
+fed_shown {B} {H} (at.Speaking h) calls s s' old new held left over f = absurd f
+fed_shown {B} {H} at.Parting calls s s' old new held left over f = absurd f
 fed_shown {B} {H} (at.Over why.Closed) calls s s' old new held left over f = absurd f
 fed_shown {B} {H} (at.Over why.PeerEnd) calls s s' old new held left over f = absurd f
 fed_shown {B} {H} (at.Over (why.Idle by)) calls s s' old new held left over f = absurd f
