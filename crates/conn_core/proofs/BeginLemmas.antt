@@ -102,7 +102,7 @@ module _ {B H : Type 0} (V : Voice H) (T : Teller H) (s : Seen) (peer : List ℕ
         at = begun V T s h.over h.given h.sent (with_run c intake calls) c.calls r ask env.pairs (stack env.pairs env.input.bytes) last is
             (record {
               count = n;
-              open = between.open;
+              live = between.live;
               stands = subst (λ (x : List ℕ). Stands V T h.over h.given h.sent c.calls (replies r) c.held (x ++ (T c.calls r).bytes)) (sym between.ring)
                   (stands_asked V T h.over h.given h.sent now c.held r c.calls between.stands h.at.2);
             }) b f;
@@ -155,6 +155,13 @@ goes_on_behind {H} ask ps a calls intake whole few Hijack e = let some : 0 < cal
 more_behind : (n m : ℕ) → 0 < m → 0 < n + m
 more_behind n m some = omega (arith, some)
 
+-- nothing is owed where a request stands
+pub asked_ring : {B H : Type 0} (a : At B H) (intake : Intake) (held ring : List ℕ) (calls : ℕ) → a ≡ at.Asked → RestsAt a intake held ring calls → ring ≡ []
+asked_ring {B} {H} a intake held ring calls e h = (subst (λ (b : At B H). RestsAt b intake held ring calls) e h).0
+
+pub asked_few : {B H : Type 0} (a : At B H) (intake : Intake) (held ring : List ℕ) (calls : ℕ) → a ≡ at.Asked → RestsAt a intake held ring calls → calls < 10000
+asked_few {B} {H} a intake held ring calls e h = (subst (λ (b : At B H). RestsAt b intake held ring calls) e h).1.0
+
 -- safety behind a run, where the hijacker of a reply that says nothing was told the bytes held
 pub begins_rest : {B H : Type 0} (V : Voice H) (a b : At B H) (ask : Ask) (ps : Pairs) (answer : Answer Content H) (last : Bool) (calls : ℕ) (intake : Intake)
     (held left before ring : List ℕ) → BeginsAt ask ps answer last a → HandsOn V a held before b ring left → StandsWhole intake → last ≡ is_last None calls
@@ -204,7 +211,7 @@ hands_hold {B} {H} V T s peer c a b ask ps answer last before ring left f e same
     go (at.Answering framer) y z x = stays (at.Answering framer) z.0 z.1 z.2 x
     go (at.Writing keeps) y z x = absurd y
     go (at.Handing who) y z x =
-        hands_at V T s h.over h.given h.sent c who ring left b z x.0 x.1 x.2 x.3 x.4.count x.4.open
+        hands_at V T s h.over h.given h.sent c who ring left b z x.0 x.1 x.2 x.3 x.4.count x.4.live
         (subst (λ (l : List ℕ). Stands V T h.over h.given h.sent x.0 (replies x.1) c.held (l ++ [])) none x.4.stands)
     go at.Refusing y z x = absurd y
     go (at.Taken who) y z x = absurd y

@@ -66,7 +66,7 @@ module _ {B H : Type 0} (V : Voice H) (T : Teller H) (s : Seen) (over : Bool) (g
       stands_kept V T over given sent c.held h.1 h.0
       (subst (λ (x : List ℕ). Stands V T over given sent h.0 (replies h.1) c.held (x ++ [])) none h.3.stands) (sym h.2) in
       subst (λ (x : List ℕ). HoldsAt b V T s over given sent (record { intake = new; held = left; ring = x; calls = c.calls })) (sym e.3)
-      (feeds_hold V T s over given sent e.0 new c.held left c.calls [] h.3.open b e.2 e.1
+      (feeds_hold V T s over given sent e.0 new c.held left c.calls [] h.3.live b e.2 e.1
       (subst (λ (n : ℕ). Stands V T over given sent n silent c.held []) (sym h.3.count) stands))
   completes_at (at.Writing false) b e is h =
       let closes : HoldsAt {B = B} (at.Over why.Closed) V T s over given sent then_kept = (
@@ -78,7 +78,7 @@ module _ {B H : Type 0} (V : Voice H) (T : Teller H) (s : Seen) (over : Bool) (g
       ) in
       subst (λ (d : At B H). HoldsAt d V T s over given sent then_kept) (sym e.0) closes
   completes_at (at.Handing who) b e is h =
-      hands_at V T s over given sent (record { intake = new; held = c.held; ring = c.ring; calls = c.calls }) who ring left b e h.0 h.1 h.2 h.3 h.4.count h.4.open
+      hands_at V T s over given sent (record { intake = new; held = c.held; ring = c.ring; calls = c.calls }) who ring left b e h.0 h.1 h.2 h.3 h.4.count h.4.live
       (subst (λ (x : List ℕ). Stands V T over given sent h.0 (replies h.1) c.held (x ++ [])) none h.4.stands)
   completes_at at.Refusing b e is h =
       let closes : HoldsAt {B = B} (at.Over why.Closed) V T s over given sent then_kept = (

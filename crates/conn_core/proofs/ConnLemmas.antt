@@ -47,7 +47,7 @@ at_start {B} {H} V T s peer c shows fed held ring calls = record {
     record {
       fed = fed;
       ring = ring;
-      open = refl;
+      live = refl;
       stands = subst (λ (n : ℕ). Stands V T false [] [] n silent ([] ++ c.held) []) (sym calls)
           (subst (λ (x : List ℕ). Stands V T false [] [] 0 silent x []) (sym held) (stands_new V T false));
     },

@@ -27,7 +27,7 @@ silent_lacks {H} V T s over given sent rest calls h =
     ([], record { word = silent; untimed = tt; partly = record { k = calls; rest = rest; calls_is = n; stands = h; closes = tt } })
 
 module _ {B H : Type 0} (V : Voice H) (T : Teller H) (s : Seen) (over : Bool) (given sent : List ℕ) (old new : Intake) (held left : List ℕ)
-    (calls : ℕ) (now : List ℕ) (open : over ≡ false) where
+    (calls : ℕ) (now : List ℕ) (live : over ≡ false) where
   pub feeds_hold : (a : At B H) → FeedsHeld old held new left a → Fed old now → Stands V T over given sent calls silent (now ++ held) []
       → HoldsAt a V T s over given sent (fed_kept new left calls)
   feeds_hold at.Reading f fed h =
@@ -38,7 +38,7 @@ module _ {B H : Type 0} (V : Voice H) (T : Teller H) (s : Seen) (over : Bool) (g
         record {
           fed = f.0.holds now fed;
           ring = refl;
-          open = open;
+          live = live;
           stands = subst (λ (x : List ℕ). Stands V T over given sent calls silent x []) rest h;
         },
       )
@@ -53,7 +53,7 @@ module _ {B H : Type 0} (V : Voice H) (T : Teller H) (s : Seen) (over : Bool) (g
         record {
           fed = f.1.holds now fed;
           ring = refl;
-          open = open;
+          live = live;
           stands = subst (λ (x : List ℕ). Stands V T over given sent calls silent x []) parts h;
         },
       )
@@ -65,7 +65,7 @@ module _ {B H : Type 0} (V : Voice H) (T : Teller H) (s : Seen) (over : Bool) (g
         record {
           fed = f.0.holds now fed;
           ring = refl;
-          open = open;
+          live = live;
           stands = subst (λ (x : List ℕ). Stands V T over given sent calls silent x []) rest h;
         },
       )

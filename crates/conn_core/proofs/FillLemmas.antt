@@ -69,7 +69,7 @@ module _ {B H : Type 0} (V : Voice H) (T : Teller H) (s : Seen) (over : Bool) (g
         owes_fill f new (T h.0 h.1) h.2 (Ok Full) x y h.3 e.0 e.1 e.2,
         record {
           count = h.4.count;
-          open = h.4.open;
+          live = h.4.live;
           stands = subst (λ (z : List ℕ). Stands V T over given sent h.0 (replies h.1) c.held z) moved h.4.stands;
         },
       )
@@ -82,7 +82,7 @@ module _ {B H : Type 0} (V : Voice H) (T : Teller H) (s : Seen) (over : Bool) (g
             ∙ ap (λ (o : Option BodyRule). body_after o f.after) h.3.rule ∙ h.3.after,
         record {
           count = h.4.count;
-          open = h.4.open;
+          live = h.4.live;
           stands = subst (λ (z : List ℕ). Stands V T over given sent h.0 (replies h.1) c.held z) moved h.4.stands;
         },
       )
@@ -96,7 +96,7 @@ module _ {B H : Type 0} (V : Voice H) (T : Teller H) (s : Seen) (over : Bool) (g
         sym h.3.hijacker ∙ sym e.hijacker_is ∙ e.who,
         record {
           count = h.4.count;
-          open = h.4.open;
+          live = h.4.live;
           stands = subst (λ (z : List ℕ). Stands V T over given sent h.0 (replies h.1) c.held z) moved h.4.stands;
         },
       )

@@ -82,40 +82,40 @@ module _ {B H : Type 0} (V : Voice H) (T : Teller H) (s : Seen) (over : Bool) (g
         → GoesOnAs (V.says first) (V.ends first) rest (V.says later) (V.ends later))
       → Stands V T over given sent k (hands_over r first) rest (V.says now piece).bytes
       → HoldsAt b V T s over given sent (with_told c ring left)
-  told_at now piece ring left at.Reading e open same as stands = absurd e
-  told_at now piece ring left at.Asked e open same as stands = absurd e
-  told_at now piece ring left (at.Refused f) e open same as stands = absurd e
-  told_at now piece ring left (at.Answering f) e open same as stands = absurd e
-  told_at now piece ring left (at.Writing keeps) e open same as stands = absurd e
-  told_at now piece ring left (at.Handing h) e open same as stands = absurd e
-  told_at now piece ring left at.Refusing e open same as stands = absurd e
-  told_at now piece ring left (at.Taken later) e open same as stands = record {
+  told_at now piece ring left at.Reading e live same behind stands = absurd e
+  told_at now piece ring left at.Asked e live same behind stands = absurd e
+  told_at now piece ring left (at.Refused f) e live same behind stands = absurd e
+  told_at now piece ring left (at.Answering f) e live same behind stands = absurd e
+  told_at now piece ring left (at.Writing keeps) e live same behind stands = absurd e
+  told_at now piece ring left (at.Handing h) e live same behind stands = absurd e
+  told_at now piece ring left at.Refusing e live same behind stands = absurd e
+  told_at now piece ring left (at.Taken later) e live same behind stands = record {
     handed = handed ring left (subst (λ (x : List ℕ). Stands V T over given sent k (hands_over r first) rest x) (sym e.0.ring_is) stands);
-    open = open;
+    live = live;
     goes = same ∙ e.0.goes;
-    as = as later e.0.as;
+    behind = behind later e.0.behind;
   }
-  told_at now piece ring left (at.Speaking later) e open same as stands = record {
+  told_at now piece ring left (at.Speaking later) e live same behind stands = record {
     handed = handed ring left (subst (λ (x : List ℕ). Stands V T over given sent k (hands_over r first) rest x) (sym e.0.ring_is) stands);
-    open = open;
+    live = live;
     goes = same ∙ e.0.goes;
-    as = as later e.0.as;
+    behind = behind later e.0.behind;
   }
-  told_at now piece ring left at.Parting e open same as stands = record {
+  told_at now piece ring left at.Parting e live same behind stands = record {
     handed = handed ring left (subst (λ (x : List ℕ). Stands V T over given sent k (hands_over r first) rest x) (sym e.0.ring_is) stands);
     ended = stops_on over (V.says first rest).go_on (same ∙ e.0.stops);
   }
-  told_at now piece ring left (at.Over why.Closed) e open same as stands = absurd e
-  told_at now piece ring left (at.Over why.PeerEnd) e open same as stands = absurd e
-  told_at now piece ring left (at.Over (why.Idle by)) e open same as stands = absurd e
-  told_at now piece ring left (at.Over (why.TimedOut since moment)) e open same as stands = absurd e
-  told_at now piece ring left (at.Over (why.Stalled since moment)) e open same as stands = absurd e
-  told_at now piece ring left (at.Over (why.Unread level)) e open same as stands = absurd e
-  told_at now piece ring left (at.Over why.ReadFailed) e open same as stands = absurd e
-  told_at now piece ring left (at.Over why.WriteFailed) e open same as stands = absurd e
-  told_at now piece ring left (at.Over (why.Halted level)) e open same as stands = absurd e
-  told_at now piece ring left (at.Over why.NoMemory) e open same as stands = unspoken (V.says now piece).bytes stands
-  told_at now piece ring left (at.Over why.Hijacked) e open same as stands =
+  told_at now piece ring left (at.Over why.Closed) e live same behind stands = absurd e
+  told_at now piece ring left (at.Over why.PeerEnd) e live same behind stands = absurd e
+  told_at now piece ring left (at.Over (why.Idle by)) e live same behind stands = absurd e
+  told_at now piece ring left (at.Over (why.TimedOut since moment)) e live same behind stands = absurd e
+  told_at now piece ring left (at.Over (why.Stalled since moment)) e live same behind stands = absurd e
+  told_at now piece ring left (at.Over (why.Unread level)) e live same behind stands = absurd e
+  told_at now piece ring left (at.Over why.ReadFailed) e live same behind stands = absurd e
+  told_at now piece ring left (at.Over why.WriteFailed) e live same behind stands = absurd e
+  told_at now piece ring left (at.Over (why.Halted level)) e live same behind stands = absurd e
+  told_at now piece ring left (at.Over why.NoMemory) e live same behind stands = unspoken (V.says now piece).bytes stands
+  told_at now piece ring left (at.Over why.Hijacked) e live same behind stands =
       parted (subst (λ (x : List ℕ). Stands V T over given sent k (hands_over r first) rest x) (sym e.0.ring_is) stands)
       (stops_on over (V.says first rest).go_on (same ∙ e.0.stops))
 
@@ -153,10 +153,10 @@ module _ {B H : Type 0} (V : Voice H) (T : Teller H) (s : Seen) (over : Bool) (g
 pub hands_at : {B H : Type 0} (V : Voice H) (T : Teller H) (s : Seen) (over : Bool) (given sent : List ℕ) (c : Kept) (h : H) (ring left : List ℕ) (b : At B H)
     → Tells V h c.held b ring left → (k : ℕ) (r : Parts) → (T k r).after ≡ Hijack → (T k r).hijacker ≡ Some h → c.calls ≡ suc k → over ≡ false
     → Stands V T over given sent k (replies r) c.held [] → HoldsAt b V T s over given sent (with_told c ring left)
-hands_at {B} {H} V T s over given sent c h ring left b e k r taken who count open stands =
-    told_at V T s over given sent c k r h c.held count h c.held ring left b e open refl (λ later as. as)
+hands_at {B} {H} V T s over given sent c h ring left b e k r taken who count live stands =
+    told_at V T s over given sent c k r h c.held count h c.held ring left b e live refl (λ later behind. behind)
     (subst (λ (x : List ℕ). Stands V T over given sent k (hands_over r h) c.held x)
-    (ap (λ (o : Bool). tail_of V h c.held o) open ∙ tail_so_far V h c.held)
+    (ap (λ (o : Bool). tail_of V h c.held o) live ∙ tail_so_far V h c.held)
     (stands_handed V T over given sent c.held r h k stands taken who))
 
 -- safety behind what it was told
@@ -196,19 +196,19 @@ module _ {B H : Type 0} (V : Voice H) (T : Teller H) (old new : Seen) (peer : Li
       let x : Hears V T h.over h.given h.sent c now = h.at in
       let q : Handed V T h.over h.given h.sent c = x.handed in
       let before : Stands V T false h.given h.sent q.k (hands_over q.request q.first) q.rest [] =
-      subst (λ (o : Bool). Stands V T o h.given h.sent q.k (hands_over q.request q.first) q.rest []) x.open
+      subst (λ (o : Bool). Stands V T o h.given h.sent q.k (hands_over q.request q.first) q.rest []) x.live
       (subst (λ (l : List ℕ). Stands V T h.over h.given h.sent q.k (hands_over q.request q.first) q.rest l) none q.stands) in
       let behind : Stands V T h.over (h.given ++ piece) h.sent q.k (hands_over q.request q.first) (q.rest ++ piece) (V.says now piece).bytes =
       subst (λ (l : List ℕ). Stands V T h.over (h.given ++ piece) h.sent q.k (hands_over q.request q.first) (q.rest ++ piece) l)
-      (ap (λ (o : Bool). tail_of V now piece o) x.open ∙ tail_so_far V now piece)
-      (stands_heard V T h.over h.given h.sent q.k q.request q.first now q.rest [] piece before x.as) in
+      (ap (λ (o : Bool). tail_of V now piece o) x.live ∙ tail_so_far V now piece)
+      (stands_heard V T h.over h.given h.sent q.k q.request q.first now q.rest [] piece before x.behind) in
       record {
         given = h.given ++ piece;
         sent = h.sent;
         over = h.over;
         shows = shows_given old new peer h.given h.sent h.over piece one given_is over_is h.shows;
-        at = told_at V T new h.over (h.given ++ piece) h.sent c q.k q.request q.first (q.rest ++ piece) q.count now piece ring left b e x.open
-            (goes_as V q.first now q.rest piece x.as) (λ later as. goes_then V q.first now later q.rest piece x.as as) behind;
+        at = told_at V T new h.over (h.given ++ piece) h.sent c q.k q.request q.first (q.rest ++ piece) q.count now piece ring left b e x.live
+            (goes_as V q.first now q.rest piece x.behind) (λ later behind. goes_then V q.first now later q.rest piece x.behind behind) behind;
       }
 
   -- the peer ended, and that was told to it
@@ -218,9 +218,9 @@ module _ {B H : Type 0} (V : Voice H) (T : Teller H) (old new : Seen) (peer : Li
       let x : Hears V T h.over h.given h.sent c now = h.at in
       let q : Handed V T h.over h.given h.sent c = x.handed in
       let before : Stands V T false h.given h.sent q.k (hands_over q.request q.first) q.rest [] =
-      subst (λ (o : Bool). Stands V T o h.given h.sent q.k (hands_over q.request q.first) q.rest []) x.open
+      subst (λ (o : Bool). Stands V T o h.given h.sent q.k (hands_over q.request q.first) q.rest []) x.live
       (subst (λ (l : List ℕ). Stands V T h.over h.given h.sent q.k (hands_over q.request q.first) q.rest l) none q.stands) in
-      let last : V.ends q.first q.rest ≡ V.ends now [] = ap (V.ends q.first) (sym (append-nil q.rest)) ∙ x.as.ended [] in
+      let last : V.ends q.first q.rest ≡ V.ends now [] = ap (V.ends q.first) (sym (append-nil q.rest)) ∙ x.behind.ended [] in
       record {
         given = h.given;
         sent = h.sent;

@@ -23,14 +23,14 @@ module _ {H : Type 0} (V : Voice H) (T U : Teller H) (s : Seen) (over : Bool) (g
   between_agrees now h = record {
     fed = h.fed;
     ring = h.ring;
-    open = h.open;
+    live = h.live;
     stands = stands_agrees T U V over given sent c.calls silent (now ++ c.held) [] (λ i lt r. same i (omega (arith, lt)) r) h.stands;
   }
 
   replying_agrees : (k : ℕ) (r : Parts) (behind : List ℕ) → Replying V T over given sent c k r behind → Replying V U over given sent c k r behind
   replying_agrees k r behind h = record {
     count = h.count;
-    open = h.open;
+    live = h.live;
     stands = stands_agrees T U V over given sent k (replies r) c.held (c.ring ++ behind) (λ i lt q. same i (omega (arith, lt, h.count)) q) h.stands;
   }
 
@@ -102,8 +102,8 @@ module _ {H : Type 0} (V : Voice H) (T U : Teller H) (s : Seen) (over : Bool) (g
     sym (ap (λ (w : WholeReply H). w.hijacker) (here h.0 h.1 h.4.count)) ∙ h.3,
     replying_agrees h.0 h.1 [] h.4,
   )
-  retold_at {B} (at.Taken who) h = record { handed = handed_agrees h.handed; open = h.open; goes = h.goes; as = h.as }
-  retold_at {B} (at.Speaking who) h = record { handed = handed_agrees h.handed; open = h.open; goes = h.goes; as = h.as }
+  retold_at {B} (at.Taken who) h = record { handed = handed_agrees h.handed; live = h.live; goes = h.goes; behind = h.behind }
+  retold_at {B} (at.Speaking who) h = record { handed = handed_agrees h.handed; live = h.live; goes = h.goes; behind = h.behind }
   retold_at {B} at.Parting h = record { handed = handed_agrees h.handed; ended = h.ended }
   retold_at {B} at.Refusing h = (
     h.0,

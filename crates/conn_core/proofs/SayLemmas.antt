@@ -60,7 +60,7 @@ saying {B} {H} (at.Answering framer) V T s over given sent c x h =
       tail = framer.rest.bytes;
       calls_is = n;
       stands = h.4.stands;
-      back = λ s' sent' ring' t. (h.0, h.1, h.2, h.3, record { count = h.4.count; open = h.4.open; stands = t });
+      back = λ s' sent' ring' t. (h.0, h.1, h.2, h.3, record { count = h.4.count; live = h.4.live; stands = t });
     }
 saying {B} {H} (at.Writing keeps) V T s over given sent c x h =
     let n : c.calls ≡ h.0 + 1 = omega (arith, h.3.count) in
@@ -72,7 +72,7 @@ saying {B} {H} (at.Writing keeps) V T s over given sent c x h =
       tail = [];
       calls_is = n;
       stands = h.3.stands;
-      back = λ s' sent' ring' t. (h.0, h.1, h.2, record { count = h.3.count; open = h.3.open; stands = t });
+      back = λ s' sent' ring' t. (h.0, h.1, h.2, record { count = h.3.count; live = h.3.live; stands = t });
     }
 saying {B} {H} (at.Handing who) V T s over given sent c x h =
     let n : c.calls ≡ h.0 + 1 = omega (arith, h.4.count) in
@@ -84,7 +84,7 @@ saying {B} {H} (at.Handing who) V T s over given sent c x h =
       tail = [];
       calls_is = n;
       stands = h.4.stands;
-      back = λ s' sent' ring' t. (h.0, h.1, h.2, h.3, record { count = h.4.count; open = h.4.open; stands = t });
+      back = λ s' sent' ring' t. (h.0, h.1, h.2, h.3, record { count = h.4.count; live = h.4.live; stands = t });
     }
 saying {B} {H} at.Refusing V T s over given sent c x h =
     let n : c.calls ≡ c.calls + 0 = omega arith in
@@ -111,7 +111,7 @@ saying {B} {H} (at.Speaking who) V T s over given sent c x h =
       tail = [];
       calls_is = n;
       stands = subst (λ (y : List ℕ). Stands V T over given sent q.k (hands_over q.request q.first) q.rest y) (sym (append-nil c.ring)) q.stands;
-      back = λ s' sent' ring' t. record { handed = handed_back V T over given sent sent' c ring' q t; open = h.open; goes = h.goes; as = h.as };
+      back = λ s' sent' ring' t. record { handed = handed_back V T over given sent sent' c ring' q t; live = h.live; goes = h.goes; behind = h.behind };
     }
 saying {B} {H} at.Parting V T s over given sent c x h =
     let q : Handed V T over given sent c = h.handed in
