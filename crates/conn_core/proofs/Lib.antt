@@ -3,6 +3,7 @@ pub mod FeedLemmas
 pub mod HeldLemmas
 pub mod PrepareLemmas
 pub mod ReadLemmas
+pub mod HijackLemmas
 pub mod BeginLemmas
 pub mod SayLemmas
 pub mod FillLemmas

@@ -1,6 +1,7 @@
 use Rattle.std.proofs.Common.{◌≡◌, ℕ, ◌+◌, ◌-◌, ◌^◌, ◌<◌, min, length, refl, sym, ap, subst, ◌∙◌}
 use Rattle.talk_core.specs.Counts.{counted_by}
 use Rattle.talk_core.specs.declared.ended.Why.TheVariants as why
+use Rattle.talk_core.specs.Tail.{Voice}
 use Rattle.conn_core.specs.declared.place.At.{At}
 use Rattle.conn_core.specs.declared.place.At.TheVariants as at
 use Rattle.conn_core.specs.Calls.{TurnEnds, IsOfFeed}
@@ -16,7 +17,8 @@ use Rattle.conn_core.proofs.ShownLemmas.{counted_sum, moved_by_read, nothing_cam
 use Rattle.conn_core.proofs.inside.Inside.read.Goals as goal
 
 pub returns-in-Bytes-clause-holds : goal.returns-in-Bytes-clause-holds
-returns-in-Bytes-clause-holds g c = λ V T h.
+returns-in-Bytes-clause-holds g c = λ T h.
+    let V : Voice g.row.H.Denot = record { says = g.H.Hijack.says; ends = g.H.Hijack.ends } in
     let s = g.L.Link.seen c.args.link.now in
     let s' = g.L.Link.seen c.read-read.new.link in
     stands_place c.feed_held-at.result c.put.new.at V T s' c.args.self.now.peer _ (sym c.put.ensures)
@@ -68,7 +70,8 @@ returns-in-NotYet-clause-reads g c =
     }
 
 pub returns-in-End-clause-holds : goal.returns-in-End-clause-holds
-returns-in-End-clause-holds g c = λ V T h.
+returns-in-End-clause-holds g c = λ T h.
+    let V : Voice g.row.H.Denot = record { says = g.H.Hijack.says; ends = g.H.Hijack.ends } in
     let s = g.L.Link.seen c.args.link.now in
     let s' = g.L.Link.seen c.read-read.new.link in
     stands_place (at.Over why.PeerEnd) c.put-in-End.new.at V T s' c.args.self.now.peer _ (sym c.put-in-End.ensures)
@@ -92,7 +95,8 @@ returns-in-End-clause-reads g c =
     }
 
 pub returns-in-Failed-clause-holds : goal.returns-in-Failed-clause-holds
-returns-in-Failed-clause-holds g c = λ V T h.
+returns-in-Failed-clause-holds g c = λ T h.
+    let V : Voice g.row.H.Denot = record { says = g.H.Hijack.says; ends = g.H.Hijack.ends } in
     let s = g.L.Link.seen c.args.link.now in
     let s' = g.L.Link.seen c.read-read.new.link in
     stands_place (at.Over why.ReadFailed) c.put-in-Failed.new.at V T s' c.args.self.now.peer _ (sym c.put-in-Failed.ensures)

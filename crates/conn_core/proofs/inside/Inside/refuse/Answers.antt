@@ -1,6 +1,7 @@
 use Rattle.std.proofs.Common.{◌≡◌, ◌++◌, ℕ, List, refl, sym, ap, ◌∙◌}
 use Rattle.reply_framing.specs.Fault.{fault_reply}
 use Rattle.circular_buffer.specs.Buffer.{Buffer}
+use Rattle.talk_core.specs.Tail.{Voice}
 use Rattle.conn_core.specs.declared.place.At.TheVariants as at
 use Rattle.conn_core.specs.declared.place.At.{At}
 use Rattle.conn_core.specs.Holds.{kept}
@@ -12,7 +13,8 @@ use Rattle.conn_core.proofs.PlaceLemmas.{stands_place}
 use Rattle.conn_core.proofs.inside.Inside.refuse.Goals as goal
 
 pub returns-clause-holds : goal.returns-clause-holds
-returns-clause-holds g c = λ V T s h.
+returns-clause-holds g c = λ T s h.
+    let V : Voice g.row.H.Denot = record { says = g.H.Hijack.says; ends = g.H.Hijack.ends } in
     stands_place at.Refusing c.put.new.at V T s c.args.self.now.peer _ (sym c.put.ensures)
     (named V T s c.args.self.now.peer c.args.self.now.local (kept c.args.self.now) c.args.fault c.put_fault.new.ring.items
     (ap (λ (b : Buffer ℕ). b.items) c.put_fault.ensures)

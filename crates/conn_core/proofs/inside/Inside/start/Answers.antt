@@ -1,4 +1,5 @@
 use Rattle.std.proofs.Common.{◌≡◌, ◌-◌, refl, arith, inl, inr}
+use Rattle.talk_core.specs.Tail.{Voice}
 use Rattle.conn_core.specs.Shown.{shows}
 use Rattle.conn_core.proofs.MovingLemmas.{wants_memory}
 use Rattle.conn_core.proofs.RetellLemmas.{no_run}
@@ -7,8 +8,12 @@ use Rattle.conn_core.proofs.inside.Inside.start.Goals as goal
 
 pub returns-else-answer : goal.returns-else-answer
 returns-else-answer g c = record {
-  holds = λ V T s by h. c.if-answer.ensures.holds V T s (λ r. by c.args.self.now.calls r) h;
-  any = λ V T s h. c.if-answer.ensures.any V T s h;
+  holds = λ T s by h.
+    let V : Voice g.row.H.Denot = record { says = g.H.Hijack.says; ends = g.H.Hijack.ends } in
+    c.if-answer.ensures.holds V T s (λ r. by c.args.self.now.calls r) h;
+  any = λ T s h.
+    let V : Voice g.row.H.Denot = record { says = g.H.Hijack.says; ends = g.H.Hijack.ends } in
+    c.if-answer.ensures.any V T s h;
   starts = record {
     same = c.if-answer.ensures.starts.same;
     calls = omega (arith, c.if-answer.ensures.starts.calls);
@@ -26,7 +31,9 @@ returns-else-answer g c = record {
 }
 
 pub returns-in-Refused-clause-any : goal.returns-in-Refused-clause-any
-returns-in-Refused-clause-any g c = λ V T s h. no_run V T c.args.self.now.calls s c.refuse.new.self (c.refuse.ensures.holds V T s h)
+returns-in-Refused-clause-any g c = λ T s h.
+    let V : Voice g.row.H.Denot = record { says = g.H.Hijack.says; ends = g.H.Hijack.ends } in
+    no_run V T c.args.self.now.calls s c.refuse.new.self (c.refuse.ensures.holds V T s h)
 
 pub returns-then-answer-clause-takes : goal.returns-then-answer-clause-takes
 returns-then-answer-clause-takes g c =

@@ -3,6 +3,7 @@ use Rattle.std.proofs.lemmas.Bool.Decides.{nat_tests}
 use Rattle.std.proofs.lemmas.List.{nil_from_length}
 use Rattle.rack_outside.specs.declared.link.LinkWrite.TheVariants as write
 use Rattle.talk_core.specs.declared.ended.Why.TheVariants as why
+use Rattle.talk_core.specs.Tail.{Voice}
 use Rattle.conn_core.specs.declared.place.At.{At}
 use Rattle.conn_core.specs.declared.place.At.TheVariants as at
 use Rattle.conn_core.specs.Holds.{kept}
@@ -19,7 +20,8 @@ use Rattle.conn_core.proofs.SaysLemmas.{wrote_once}
 use Rattle.conn_core.proofs.inside.Inside.write.Goals as goal
 
 pub returns-then-is_empty-clause-holds : goal.returns-then-is_empty-clause-holds
-returns-then-is_empty-clause-holds g c = λ V T h.
+returns-then-is_empty-clause-holds g c = λ T h.
+    let V : Voice g.row.H.Denot = record { says = g.H.Hijack.says; ends = g.H.Hijack.ends } in
     let s = g.L.Link.seen c.args.link.now in
     let s' = g.L.Link.seen c.send.new.link in
     let p = c.args.self.now in
@@ -61,7 +63,8 @@ returns-then-is_empty-clause-says g c =
     }
 
 pub returns-else-is_empty-clause-holds : goal.returns-else-is_empty-clause-holds
-returns-else-is_empty-clause-holds g c = λ V T h.
+returns-else-is_empty-clause-holds g c = λ T h.
+    let V : Voice g.row.H.Denot = record { says = g.H.Hijack.says; ends = g.H.Hijack.ends } in
     let s = g.L.Link.seen c.args.link.now in
     let s' = g.L.Link.seen c.send.new.link in
     let p = c.args.self.now in
@@ -109,7 +112,8 @@ returns-in-NotYet-clause-says g c =
     }
 
 pub returns-in-Failed-clause-holds : goal.returns-in-Failed-clause-holds
-returns-in-Failed-clause-holds g c = λ V T h.
+returns-in-Failed-clause-holds g c = λ T h.
+    let V : Voice g.row.H.Denot = record { says = g.H.Hijack.says; ends = g.H.Hijack.ends } in
     let s = g.L.Link.seen c.args.link.now in
     let s' = g.L.Link.seen c.send.new.link in
     let p = c.args.self.now in
