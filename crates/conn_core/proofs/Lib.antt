@@ -13,6 +13,7 @@ pub mod ShownLemmas
 pub mod MovedLemmas
 pub mod MoveLemmas
 pub mod MovingLemmas
+pub mod ToldLemmas
 pub mod FedLemmas
 pub mod TurnLemmas
 pub mod SaidLemmas

@@ -37,7 +37,7 @@ goes_then (x ∷ xs) ys m k n h i = (h.0, h.1, h.2, goes_then xs ys h.0 k n h.3 
 pub goes_on : (xs : List Move) (x : Move) (m k n : Moment) → Goes xs m k → Makes x k n → OwesRightly n.shown → Goes (xs ++ x ∷ []) m n
 goes_on xs x m k n h makes owes = goes_then xs (x ∷ []) m k n h (n, makes, owes, refl)
 
-some_not : (xs : List ℕ) → 0 < length xs → xs ≢ []
+pub some_not : (xs : List ℕ) → 0 < length xs → xs ≢ []
 some_not xs some none = absurd (omega (arith, some, ap (λ (x : List ℕ). length x) none))
 
 -- what is owed and held where a connection rests

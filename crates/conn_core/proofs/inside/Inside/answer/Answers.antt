@@ -1,4 +1,4 @@
-use Rattle.std.proofs.Common.{◌+◌, ◌==◌, None, refl, sym}
+use Rattle.std.proofs.Common.{◌≡◌, ◌+◌, ◌==◌, None, refl, sym, ap}
 use Rattle.rack_types.specs.Request.{Parts}
 use Rattle.rack_env.specs.Environment.{env_pairs}
 use Rattle.reply_framing.specs.Reply.{WholeReply}
@@ -6,11 +6,15 @@ use Rattle.talk_core.specs.declared.ended.Why.TheVariants as why
 use Rattle.talk_core.specs.Teller.{Teller, reply_of, is_last}
 use Rattle.talk_core.proofs.CallerLemmas.{is_last_none, told_at, told_before, told_here, agrees_same}
 use Rattle.talk_core.specs.Tail.{Voice}
+use Rattle.conn_core.specs.declared.place.At.{At}
 use Rattle.conn_core.specs.declared.place.At.TheVariants as at
 use Rattle.conn_core.specs.Holds.{kept}
+use Rattle.conn_core.specs.Place.{state_at}
+use Rattle.conn_core.specs.Shown.{replied_at, why_at}
 use Rattle.conn_core.proofs.BeginLemmas.{with_run, answered, unanswered, asked_ring, hands_hold}
 use Rattle.conn_core.proofs.PlaceLemmas.{stands_place}
 use Rattle.conn_core.proofs.RetellLemmas.{retold}
+use Rattle.conn_core.proofs.ToldLemmas.{run_began}
 use Rattle.conn_core.proofs.inside.Inside.answer.Goals as goal
 
 pub returns-in-Ok-clause-holds : goal.returns-in-Ok-clause-holds
@@ -56,4 +60,25 @@ returns-in-Err-clause-any g c = λ T s h.
       before = agrees_same T p.calls;
       stands = stands_place (at.Over why.NoMemory) c.put-in-Err.new.at V T s p.peer _ (sym c.put-in-Err.ensures)
           (unanswered V T s p.peer p.local (kept p) _ refl (stands_place p.at at.Asked V T s p.peer (kept p) c.requires.at h));
+    }
+
+pub returns-in-Ok-clause-runs : goal.returns-in-Ok-clause-runs
+returns-in-Ok-clause-runs g c =
+    let V : Voice g.row.H.Denot = record { says = g.H.Hijack.says; ends = g.H.Hijack.ends } in
+    let p = c.args.self.now in
+    let place : c.put.new.at ≡ c.hand_on-at.result = c.put.ensures in
+    run_began V _ _ p.calls (ap (λ (a : At g.row.B.Denot g.row.H.Denot). replied_at a p.calls) c.requires.at) c.in-Ok.ask c.prepare.new.env.pairs
+    (g.R.Runner.answer c.args.runner.now c.prepare.new.env.pairs c.prepare.new.env.input.bytes) (p.calls == 9999) c.run-at.result c.hand_on-at.result
+    p.held p.ring.items c.hand_on-at.new.ring.items c.hand_on-at.new.held (record { peer = refl; local = refl; lives = refl; taken = refl }) refl
+    (ap (λ (a : At g.row.B.Denot g.row.H.Denot). state_at a) place) (ap (λ (a : At g.row.B.Denot g.row.H.Denot). why_at a) place) refl refl
+    (ap (λ (a : At g.row.B.Denot g.row.H.Denot). replied_at a (p.calls + 1)) place) c.run-at.ensures.begins c.hand_on-at.ensures.hands
+
+pub returns-in-Err-clause-runs : goal.returns-in-Err-clause-runs
+returns-in-Err-clause-runs g c =
+    let place : c.put-in-Err.new.at ≡ at.Over why.NoMemory = c.put-in-Err.ensures in
+    record {
+      same = record { peer = refl; local = refl; lives = refl; taken = refl };
+      calls = refl;
+      state = ap (λ (a : At g.row.B.Denot g.row.H.Denot). state_at a) place;
+      why = ap (λ (a : At g.row.B.Denot g.row.H.Denot). why_at a) place;
     }

@@ -6,7 +6,7 @@ use Rattle.conn_core.specs.declared.place.At.TheVariants as at
 use Rattle.conn_core.specs.declared.place.At.{At}
 use Rattle.conn_core.specs.Holds.{kept}
 use Rattle.conn_core.specs.Place.{state_at}
-use Rattle.conn_core.specs.Shown.{replied_at, owed_at, why_at}
+use Rattle.conn_core.specs.Shown.{replied_at, owed_at, why_at, after_at, sure_at}
 use Rattle.conn_core.proofs.BeginLemmas.{named}
 use Rattle.conn_core.proofs.MoveLemmas.{refused_ring}
 use Rattle.conn_core.proofs.PlaceLemmas.{stands_place}
@@ -34,5 +34,7 @@ returns-clause-names g c =
           ∙ sym (ap (λ (a : At g.row.B.Denot g.row.H.Denot). replied_at a p.calls) c.requires);
       state = ap (λ (a : At g.row.B.Denot g.row.H.Denot). state_at a) place;
       why = ap (λ (a : At g.row.B.Denot g.row.H.Denot). why_at a) place;
-      owed = (c.args.fault, ap (λ (a : At g.row.B.Denot g.row.H.Denot). owed_at a c.put_fault.new.ring.items) place ∙ ring);
+      owed = ap (λ (a : At g.row.B.Denot g.row.H.Denot). owed_at a c.put_fault.new.ring.items) place ∙ ring;
+      after = ap (λ (a : At g.row.B.Denot g.row.H.Denot). after_at a) place;
+      sure = ap (λ (a : At g.row.B.Denot g.row.H.Denot). sure_at a) place;
     }

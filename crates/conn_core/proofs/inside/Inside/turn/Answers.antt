@@ -2,7 +2,7 @@ use Rattle.std.proofs.Common.{◌≡◌, ◌+◌, ◌≤◌, false, ltb, refl, a
 use Rattle.conn_core.specs.declared.left.Left.{Left}
 use Rattle.conn_core.specs.Inner.{left_at}
 use Rattle.conn_core.specs.Shown.{shows, replied_at}
-use Rattle.conn_core.proofs.MoveLemmas.{owes_rightly}
+use Rattle.conn_core.proofs.MoveLemmas.{owes_rightly, hearing_owes}
 use Rattle.conn_core.proofs.MovingLemmas.{full, moving_start, moving_step, moving_end}
 use Rattle.conn_core.proofs.RetellLemmas.{more_runs}
 use Rattle.conn_core.proofs.TurnLemmas.{turning_start, turning_step, turning_end, step_stops, risen, tells_same}
@@ -13,7 +13,7 @@ loop-self-init g c = record {
   holds = λ e V T tells h. c.start.ensures.holds V T (g.L.Link.seen c.args.link.now) tells h;
   any = λ V T h. c.start.ensures.any V T (g.L.Link.seen c.args.link.now) h;
   turning = turning_start (shows c.args.self.now) (shows c.start.new.self) (g.L.Link.seen c.args.link.now) c.new-left.result c.start.new.left
-      c.new-left.ensures c.start.ensures.starts c.start.ensures.left c.start.ensures.few;
+      c.new-left.ensures c.start.ensures.takes c.start.ensures.left c.start.ensures.few;
   moving = moving_start (shows c.args.self.now) (shows c.start.new.self) (g.L.Link.seen c.args.link.now) c.new-left.result c.start.new.left
       c.new-left.ensures c.start.ensures.takes c.start.ensures.left c.start.ensures.few c.requires.ready (owes_rightly c.start.new.self);
   counts = c.start.ensures.counts ∙ ap (λ (l : Left). g.R.Runner.runs c.args.runner.now + l.runs) c.new-left.ensures;
@@ -62,8 +62,9 @@ returns-in-Waits-clause-turns g c =
     let i = c.loop-self.invariant in
     let turning = turning_step (shows c.args.self.now) (shows c.loop-self.self) (shows c.step.new.self) (g.L.Link.seen c.args.link.now)
     (g.L.Link.seen c.loop-self.link) (g.L.Link.seen c.step.new.link) c.loop-self.left c.step.new.left i.turning c.step.ensures.steps in
-    let stopped = step_stops c.step.result c.loop-self.left c.step.new.left c.loop-self.self.at c.step.new.self.at (g.L.Link.seen c.args.link.now)
-    (g.L.Link.seen c.loop-self.link) (g.L.Link.seen c.step.new.link) c.in-Waits.is c.step.ensures.leaves i.turning.moved.waits in
+    let stopped = step_stops c.step.result c.loop-self.left c.step.new.left c.loop-self.self.at c.step.new.self.at (shows c.step.new.self)
+    (g.L.Link.seen c.args.link.now) (g.L.Link.seen c.loop-self.link) (g.L.Link.seen c.step.new.link) c.in-Waits.is c.step.ensures.leaves
+    i.turning.moved.waits refl (hearing_owes c.step.new.self) in
     let got = risen c.replied_at-replied.result c.replied_at.result (replied_at c.args.self.now.at c.args.self.now.calls)
     (replied_at c.step.new.self.at c.step.new.self.calls) c.replied_at-replied.ensures c.replied_at.ensures in
     let made = moving_end c.step.result (shows c.args.self.now) (shows c.loop-self.self) (shows c.step.new.self) (g.L.Link.seen c.args.link.now)
