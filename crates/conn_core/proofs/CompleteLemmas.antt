@@ -36,27 +36,27 @@ has_request {B} {H} (at.Speaking who) intake held ring calls h = tt
 has_request {B} {H} at.Parting intake held ring calls h = tt
 has_request {B} {H} (at.Over ended) intake held ring calls h = tt
 
+-- the parts behind it
+abbrev then_kept : Kept → Intake → List ℕ → List ℕ → Kept
+then_kept c new left ring = record { intake = new; held = left; ring = ring; calls = c.calls }
+
 module _ {B H : Type 0} (V : Voice H) (T : Teller H) (s : Seen) (over : Bool) (given sent : List ℕ) (c : Kept) (new : Intake) (left ring : List ℕ)
     (none : c.ring ≡ []) where
-  -- the parts behind it
-  abbrev then_kept : Kept
-  then_kept = record { intake = new; held = left; ring = ring; calls = c.calls }
-
   -- nothing of the connection changed
   unchanged : (a b : At B H) → b ≡ a → new ≡ c.intake → left ≡ c.held → ring ≡ [] → HoldsAt a V T s over given sent c
-      → HoldsAt b V T s over given sent then_kept
+      → HoldsAt b V T s over given sent (then_kept c new left ring)
   unchanged a b e i l r h =
-      subst (λ (d : At B H). HoldsAt d V T s over given sent then_kept) (sym e)
+      subst (λ (d : At B H). HoldsAt d V T s over given sent (then_kept c new left ring)) (sym e)
       (subst (λ (k : Kept). HoldsAt a V T s over given sent k)
-      (kept_same c then_kept i l (r ∙ sym none) refl) h)
+      (kept_same c (then_kept c new left ring) i l (r ∙ sym none) refl) h)
 
   -- the same of what a hijacker that goes on has behind it
   spoken : (h : H) (b : At B H) → b ≡ at.Taken h → new ≡ c.intake → left ≡ c.held → ring ≡ [] → HoldsAt {B = B} (at.Speaking h) V T s over given sent c
-      → HoldsAt b V T s over given sent then_kept
+      → HoldsAt b V T s over given sent (then_kept c new left ring)
   spoken h b e i l r x = unchanged (at.Taken h) b e i l r x
 
   completes_at : (a b : At B H) → CompletesTo V a c.intake c.held b new left ring → IsSaying a → HoldsAt a V T s over given sent c
-      → HoldsAt b V T s over given sent then_kept
+      → HoldsAt b V T s over given sent (then_kept c new left ring)
   completes_at at.Reading b e is h = absurd is
   completes_at at.Asked b e is h = absurd is
   completes_at (at.Refused f) b e is h = absurd is
@@ -69,34 +69,34 @@ module _ {B H : Type 0} (V : Voice H) (T : Teller H) (s : Seen) (over : Bool) (g
       (feeds_hold V T s over given sent e.0 new c.held left c.calls [] h.3.live b e.2 e.1
       (subst (λ (n : ℕ). Stands V T over given sent n silent c.held []) (sym h.3.count) stands))
   completes_at (at.Writing false) b e is h =
-      let closes : HoldsAt {B = B} (at.Over why.Closed) V T s over given sent then_kept = (
+      let closes : HoldsAt {B = B} (at.Over why.Closed) V T s over given sent (then_kept c new left ring) = (
         closed,
         c.held,
         tt,
         whole_closed V T (past s c.calls given sent over) c.held h.1 h.0
             (subst (λ (x : List ℕ). Stands V T over given sent h.0 (replies h.1) c.held (x ++ [])) none h.3.stands) (sym h.2) h.3.count tt,
       ) in
-      subst (λ (d : At B H). HoldsAt d V T s over given sent then_kept) (sym e.0) closes
+      subst (λ (d : At B H). HoldsAt d V T s over given sent (then_kept c new left ring)) (sym e.0) closes
   completes_at (at.Handing who) b e is h =
       hands_at V T s over given sent (record { intake = new; held = c.held; ring = c.ring; calls = c.calls }) who ring left b e h.0 h.1 h.2 h.3 h.4.count h.4.live
       (subst (λ (x : List ℕ). Stands V T over given sent h.0 (replies h.1) c.held (x ++ [])) none h.4.stands)
   completes_at at.Refusing b e is h =
-      let closes : HoldsAt {B = B} (at.Over why.Closed) V T s over given sent then_kept = (
+      let closes : HoldsAt {B = B} (at.Over why.Closed) V T s over given sent (then_kept c new left ring) = (
         refused h.0,
         h.1,
         tt,
         whole_refused V T (past s c.calls given sent over) h.1 h.0 c.calls
             (subst (λ (x : List ℕ). Stands V T over given sent c.calls (refuses h.0) h.1 x) none h.2) refl tt,
       ) in
-      subst (λ (d : At B H). HoldsAt d V T s over given sent then_kept) (sym e.0) closes
+      subst (λ (d : At B H). HoldsAt d V T s over given sent (then_kept c new left ring)) (sym e.0) closes
   completes_at (at.Taken who) b e is h = absurd is
   completes_at (at.Speaking who) b e is h = spoken who b e.0 e.1.0 e.1.1 e.2 h
   completes_at at.Parting b e is h =
       let q : Handed V T over given sent c = h.handed in
-      let ends : HoldsAt {B = B} (at.Over why.Hijacked) V T s over given sent then_kept =
+      let ends : HoldsAt {B = B} (at.Over why.Hijacked) V T s over given sent (then_kept c new left ring) =
       parted V T s over given sent c q.k q.request q.first q.rest q.count
       (subst (λ (x : List ℕ). Stands V T over given sent q.k (hands_over q.request q.first) q.rest x) none q.stands) h.ended in
-      subst (λ (d : At B H). HoldsAt d V T s over given sent then_kept) (sym e.0) ends
+      subst (λ (d : At B H). HoldsAt d V T s over given sent (then_kept c new left ring)) (sym e.0) ends
   completes_at (at.Over ended) b e is h = absurd is
 
 -- the link took all of the ring

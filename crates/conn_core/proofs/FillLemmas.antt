@@ -177,10 +177,9 @@ fills_rest {B} {H} (at.Answering f) (at.Writing keeps) x y intake held calls e i
   subst (λ (z : After). GoesOn z intake calls)
       (sym (e.keeps_is ∙ after_by_rule f e.new e.result x y e.unfilled e.fills e.after_is)) h.1,
 )
-fills_rest {B} {H} (at.Answering f) (at.Handing who) x y intake held calls e is h =
-(
+fills_rest {B} {H} (at.Answering f) (at.Handing who) x y intake held calls e is h = (
   some_of x.items f.rest.bytes y.items (handed_ring f x y who e) h.0,
-      subst (λ (z : After). GoesOn z intake calls) (sym (sym e.taken ∙ after_by_rule f e.new e.result x y e.unfilled e.fills e.after_is)) h.1,
+  subst (λ (z : After). GoesOn z intake calls) (sym (sym e.taken ∙ after_by_rule f e.new e.result x y e.unfilled e.fills e.after_is)) h.1,
 )
 fills_rest {B} {H} (at.Answering f) at.Refusing x y intake held calls e is h = absurd e
 fills_rest {B} {H} (at.Answering f) (at.Taken who) x y intake held calls e is h = absurd e

@@ -18,9 +18,10 @@ use Rattle.talk_core.proofs.CallerLemmas.{stands_handed, stands_heard, stands_ov
 use Rattle.conn_core.specs.declared.place.At.{At}
 use Rattle.conn_core.specs.declared.place.At.TheVariants as at
 use Rattle.conn_core.specs.Holds.{Kept, past, Replying, Handed, Hears, SaidLast, HoldsAt, StandsAt}
+use Rattle.conn_core.specs.Place.{IsHearing}
 use Rattle.conn_core.specs.Plain.{EndsPlainly}
 use Rattle.conn_core.specs.Rests.{RestsAt}
-use Rattle.conn_core.specs.Steps.{Tells, TellsEnd, HandsOn}
+use Rattle.conn_core.specs.Steps.{Tells, TellsEnd, HandsOn, EndsOn}
 use Rattle.conn_core.proofs.PlaceLemmas.{kept_same}
 
 -- the parts behind what a hijacker was told
@@ -56,9 +57,9 @@ pub goes_as : {H : Type 0} (V : Voice H) (h now : H) (bytes piece : List ℕ) �
     → (V.says h (bytes ++ piece)).go_on ≡ (V.says now piece).go_on
 goes_as {H} V h now bytes piece first = ap (λ (s : Said). s.go_on) (first.joined piece)
 
-module _ {B H : Type 0} (V : Voice H) (T : Teller H) (s : Seen) (over : Bool) (given sent : List ℕ) (c : Kept) (k : ℕ) (r : Parts) (first : H)
+module _ {H : Type 0} (V : Voice H) (T : Teller H) (s : Seen) (over : Bool) (given sent : List ℕ) (c : Kept) (k : ℕ) (r : Parts) (first : H)
     (rest : List ℕ) (count : c.calls ≡ suc k) where
-  handed : (ring left : List ℕ) → Stands V T over given sent k (hands_over r first) rest ring → Handed V T over given sent (with_told c ring left)
+  abbrev handed : (ring left : List ℕ) → Stands V T over given sent k (hands_over r first) rest ring → Handed V T over given sent (with_told c ring left)
   handed ring left stands = record { k = k; request = r; first = first; rest = rest; count = count; stands = stands }
 
   -- it said its last, and all of it was sent
@@ -75,6 +76,8 @@ module _ {B H : Type 0} (V : Voice H) (T : Teller H) (s : Seen) (over : Bool) (g
       let n : c.calls ≡ k + 1 = omega (arith, count) in
       (lacks, record { word = hands_over r first; untimed = tt; partly = record { k = k; rest = rest; calls_is = n; stands = stands; closes = tt } })
 
+module _ {B H : Type 0} (V : Voice H) (T : Teller H) (s : Seen) (over : Bool) (given sent : List ℕ) (c : Kept) (k : ℕ) (r : Parts) (first : H)
+    (rest : List ℕ) (count : c.calls ≡ suc k) where
   -- a hijacker, which is what the first one is behind what it was told, was told this piece, and that is all
   pub told_at : (now : H) (piece ring left : List ℕ) (b : At B H) → Tells V now piece b ring left → over ≡ false
       → (V.says first rest).go_on ≡ (V.says now piece).go_on
@@ -90,19 +93,19 @@ module _ {B H : Type 0} (V : Voice H) (T : Teller H) (s : Seen) (over : Bool) (g
   told_at now piece ring left (at.Handing h) e live same behind stands = absurd e
   told_at now piece ring left at.Refusing e live same behind stands = absurd e
   told_at now piece ring left (at.Taken later) e live same behind stands = record {
-    handed = handed ring left (subst (λ (x : List ℕ). Stands V T over given sent k (hands_over r first) rest x) (sym e.0.ring_is) stands);
+    handed = handed V T s over given sent c k r first rest count ring left (subst (λ (x : List ℕ). Stands V T over given sent k (hands_over r first) rest x) (sym e.0.ring_is) stands);
     live = live;
     goes = same ∙ e.0.goes;
     behind = behind later e.0.behind;
   }
   told_at now piece ring left (at.Speaking later) e live same behind stands = record {
-    handed = handed ring left (subst (λ (x : List ℕ). Stands V T over given sent k (hands_over r first) rest x) (sym e.0.ring_is) stands);
+    handed = handed V T s over given sent c k r first rest count ring left (subst (λ (x : List ℕ). Stands V T over given sent k (hands_over r first) rest x) (sym e.0.ring_is) stands);
     live = live;
     goes = same ∙ e.0.goes;
     behind = behind later e.0.behind;
   }
   told_at now piece ring left at.Parting e live same behind stands = record {
-    handed = handed ring left (subst (λ (x : List ℕ). Stands V T over given sent k (hands_over r first) rest x) (sym e.0.ring_is) stands);
+    handed = handed V T s over given sent c k r first rest count ring left (subst (λ (x : List ℕ). Stands V T over given sent k (hands_over r first) rest x) (sym e.0.ring_is) stands);
     ended = stops_on over (V.says first rest).go_on (same ∙ e.0.stops);
   }
   told_at now piece ring left (at.Over why.Closed) e live same behind stands = absurd e
@@ -114,9 +117,9 @@ module _ {B H : Type 0} (V : Voice H) (T : Teller H) (s : Seen) (over : Bool) (g
   told_at now piece ring left (at.Over why.ReadFailed) e live same behind stands = absurd e
   told_at now piece ring left (at.Over why.WriteFailed) e live same behind stands = absurd e
   told_at now piece ring left (at.Over (why.Halted level)) e live same behind stands = absurd e
-  told_at now piece ring left (at.Over why.NoMemory) e live same behind stands = unspoken (V.says now piece).bytes stands
+  told_at now piece ring left (at.Over why.NoMemory) e live same behind stands = unspoken V T s over given sent c k r first rest count (V.says now piece).bytes stands
   told_at now piece ring left (at.Over why.Hijacked) e live same behind stands =
-      parted (subst (λ (x : List ℕ). Stands V T over given sent k (hands_over r first) rest x) (sym e.0.ring_is) stands)
+      parted V T s over given sent c k r first rest count (subst (λ (x : List ℕ). Stands V T over given sent k (hands_over r first) rest x) (sym e.0.ring_is) stands)
       (stops_on over (V.says first rest).go_on (same ∙ e.0.stops))
 
   -- it was told the peer's end
@@ -132,7 +135,7 @@ module _ {B H : Type 0} (V : Voice H) (T : Teller H) (s : Seen) (over : Bool) (g
   told_end now ring left (at.Taken h) e ended stands = absurd e
   told_end now ring left (at.Speaking h) e ended stands = absurd e
   told_end now ring left at.Parting e ended stands = record {
-    handed = handed ring left (subst (λ (x : List ℕ). Stands V T over given sent k (hands_over r first) rest x) (sym e.0) stands);
+    handed = handed V T s over given sent c k r first rest count ring left (subst (λ (x : List ℕ). Stands V T over given sent k (hands_over r first) rest x) (sym e.0) stands);
     ended = ap (λ (o : Bool). if o then false else (V.says first rest).go_on) ended;
   }
   told_end now ring left (at.Over why.Closed) e ended stands = absurd e
@@ -144,9 +147,9 @@ module _ {B H : Type 0} (V : Voice H) (T : Teller H) (s : Seen) (over : Bool) (g
   told_end now ring left (at.Over why.ReadFailed) e ended stands = absurd e
   told_end now ring left (at.Over why.WriteFailed) e ended stands = absurd e
   told_end now ring left (at.Over (why.Halted level)) e ended stands = absurd e
-  told_end now ring left (at.Over why.NoMemory) e ended stands = unspoken (V.ends now []) stands
+  told_end now ring left (at.Over why.NoMemory) e ended stands = unspoken V T s over given sent c k r first rest count (V.ends now []) stands
   told_end now ring left (at.Over why.Hijacked) e ended stands =
-      parted (subst (λ (x : List ℕ). Stands V T over given sent k (hands_over r first) rest x) e.0 stands)
+      parted V T s over given sent c k r first rest count (subst (λ (x : List ℕ). Stands V T over given sent k (hands_over r first) rest x) e.0 stands)
       (ap (λ (o : Bool). if o then false else (V.says first rest).go_on) ended)
 
 -- a reply was sent whole, and its hijacker was told the bytes held
@@ -264,3 +267,120 @@ module _ {B H : Type 0} (V : Voice H) (T : Teller H) (old new : Seen) (peer : Li
           }),
         );
       }
+
+-- the same of a place at which one has the connection
+module _ {B H : Type 0} (V : Voice H) (T : Teller H) (old new : Seen) (peer : List ℕ) (c : Kept) (one : IsOneRead old new) (none : c.ring ≡ []) where
+  pub heard_at : (a b : At B H) (piece before ring left : List ℕ) → IsHearing a → new.given ≡ appended old.given piece → new.over ≡ old.over
+      → HandsOn V a piece before b ring left → StandsAt V T old peer a c → StandsAt V T new peer b (with_told c ring left)
+  heard_at at.Reading b piece before ring left is given_is over_is e h = absurd is
+  heard_at at.Asked b piece before ring left is given_is over_is e h = absurd is
+  heard_at (at.Refused f) b piece before ring left is given_is over_is e h = absurd is
+  heard_at (at.Answering f) b piece before ring left is given_is over_is e h = absurd is
+  heard_at (at.Writing keeps) b piece before ring left is given_is over_is e h = absurd is
+  heard_at (at.Handing now) b piece before ring left is given_is over_is e h = absurd is
+  heard_at at.Refusing b piece before ring left is given_is over_is e h = absurd is
+  heard_at (at.Taken now) b piece before ring left is given_is over_is e h = heard V T old new peer c now one none b piece ring left given_is over_is e h
+  heard_at (at.Speaking now) b piece before ring left is given_is over_is e h = absurd is
+  heard_at at.Parting b piece before ring left is given_is over_is e h = absurd is
+  heard_at (at.Over w) b piece before ring left is given_is over_is e h = absurd is
+
+  pub end_at : (a b : At B H) (ring left : List ℕ) → IsHearing a → new.given ≡ old.given → new.over ≡ marked old.over
+      → EndsOn V a b ring → StandsAt V T old peer a c → StandsAt V T new peer b (with_told c ring left)
+  end_at at.Reading b ring left is given_is over_is e h = absurd is
+  end_at at.Asked b ring left is given_is over_is e h = absurd is
+  end_at (at.Refused f) b ring left is given_is over_is e h = absurd is
+  end_at (at.Answering f) b ring left is given_is over_is e h = absurd is
+  end_at (at.Writing keeps) b ring left is given_is over_is e h = absurd is
+  end_at (at.Handing now) b ring left is given_is over_is e h = absurd is
+  end_at at.Refusing b ring left is given_is over_is e h = absurd is
+  end_at (at.Taken now) b ring left is given_is over_is e h = heard_end V T old new peer c now one none b ring left given_is over_is e h
+  end_at (at.Speaking now) b ring left is given_is over_is e h = absurd is
+  end_at at.Parting b ring left is given_is over_is e h = absurd is
+  end_at (at.Over w) b ring left is given_is over_is e h = absurd is
+
+  pub nothing_at : (a : At B H) (d : Kept) → IsHearing a → d.intake ≡ c.intake → d.held ≡ c.held → d.ring ≡ c.ring → d.calls ≡ c.calls
+      → new.given ≡ old.given → new.over ≡ old.over → StandsAt V T old peer a c → StandsAt V T new peer a d
+  nothing_at at.Reading d is i l r n given_is over_is h = absurd is
+  nothing_at at.Asked d is i l r n given_is over_is h = absurd is
+  nothing_at (at.Refused f) d is i l r n given_is over_is h = absurd is
+  nothing_at (at.Answering f) d is i l r n given_is over_is h = absurd is
+  nothing_at (at.Writing keeps) d is i l r n given_is over_is h = absurd is
+  nothing_at (at.Handing now) d is i l r n given_is over_is h = absurd is
+  nothing_at at.Refusing d is i l r n given_is over_is h = absurd is
+  nothing_at (at.Taken now) d is i l r n given_is over_is h = hears_nothing {B = B} V T old new peer c now one none d i l r n given_is over_is h
+  nothing_at (at.Speaking now) d is i l r n given_is over_is h = absurd is
+  nothing_at at.Parting d is i l r n given_is over_is h = absurd is
+  nothing_at (at.Over w) d is i l r n given_is over_is h = absurd is
+
+  pub failure_at : (a : At B H) (d : Kept) → IsHearing a → d.calls ≡ c.calls → new.given ≡ old.given → new.over ≡ old.over
+      → Rose old.failed_reads new.failed_reads → StandsAt V T old peer a c → StandsAt {B = B} V T new peer (at.Over why.ReadFailed) d
+  failure_at at.Reading d is n given_is over_is rose h = absurd is
+  failure_at at.Asked d is n given_is over_is rose h = absurd is
+  failure_at (at.Refused f) d is n given_is over_is rose h = absurd is
+  failure_at (at.Answering f) d is n given_is over_is rose h = absurd is
+  failure_at (at.Writing keeps) d is n given_is over_is rose h = absurd is
+  failure_at (at.Handing now) d is n given_is over_is rose h = absurd is
+  failure_at at.Refusing d is n given_is over_is rose h = absurd is
+  failure_at (at.Taken now) d is n given_is over_is rose h = hears_failure {B = B} V T old new peer c now one none d n given_is over_is rose h
+  failure_at (at.Speaking now) d is n given_is over_is rose h = absurd is
+  failure_at at.Parting d is n given_is over_is rose h = absurd is
+  failure_at (at.Over w) d is n given_is over_is rose h = absurd is
+
+-- where a hijacker has the connection nothing is owed and nothing held
+pub hearing_rests : {B H : Type 0} (a : At B H) (intake : Intake) (held ring : List ℕ) (calls : ℕ) → IsHearing a → RestsAt a intake held ring calls
+    → (held ≡ []) × (ring ≡ [])
+hearing_rests {B} {H} at.Reading intake held ring calls is h = absurd is
+hearing_rests {B} {H} at.Asked intake held ring calls is h = absurd is
+hearing_rests {B} {H} (at.Refused f) intake held ring calls is h = absurd is
+hearing_rests {B} {H} (at.Answering f) intake held ring calls is h = absurd is
+hearing_rests {B} {H} (at.Writing keeps) intake held ring calls is h = absurd is
+hearing_rests {B} {H} (at.Handing now) intake held ring calls is h = absurd is
+hearing_rests {B} {H} at.Refusing intake held ring calls is h = absurd is
+hearing_rests {B} {H} (at.Taken now) intake held ring calls is h = h
+hearing_rests {B} {H} (at.Speaking now) intake held ring calls is h = absurd is
+hearing_rests {B} {H} at.Parting intake held ring calls is h = absurd is
+hearing_rests {B} {H} (at.Over w) intake held ring calls is h = absurd is
+
+-- safety behind what was told at such a place
+pub heard_rest : {B H : Type 0} (V : Voice H) (a b : At B H) (piece before ring left : List ℕ) (intake : Intake) (calls : ℕ) → IsHearing a
+    → HandsOn V a piece before b ring left → RestsAt b intake left ring calls
+heard_rest {B} {H} V at.Reading b piece before ring left intake calls is e = absurd is
+heard_rest {B} {H} V at.Asked b piece before ring left intake calls is e = absurd is
+heard_rest {B} {H} V (at.Refused f) b piece before ring left intake calls is e = absurd is
+heard_rest {B} {H} V (at.Answering f) b piece before ring left intake calls is e = absurd is
+heard_rest {B} {H} V (at.Writing keeps) b piece before ring left intake calls is e = absurd is
+heard_rest {B} {H} V (at.Handing now) b piece before ring left intake calls is e = absurd is
+heard_rest {B} {H} V at.Refusing b piece before ring left intake calls is e = absurd is
+heard_rest {B} {H} V (at.Taken now) b piece before ring left intake calls is e = told_rest V now piece ring left intake calls b e
+heard_rest {B} {H} V (at.Speaking now) b piece before ring left intake calls is e = absurd is
+heard_rest {B} {H} V at.Parting b piece before ring left intake calls is e = absurd is
+heard_rest {B} {H} V (at.Over w) b piece before ring left intake calls is e = absurd is
+
+pub heard_end_rest : {B H : Type 0} (V : Voice H) (a b : At B H) (ring left : List ℕ) (intake : Intake) (calls : ℕ) → IsHearing a
+    → EndsOn V a b ring → RestsAt b intake left ring calls
+heard_end_rest {B} {H} V at.Reading b ring left intake calls is e = absurd is
+heard_end_rest {B} {H} V at.Asked b ring left intake calls is e = absurd is
+heard_end_rest {B} {H} V (at.Refused f) b ring left intake calls is e = absurd is
+heard_end_rest {B} {H} V (at.Answering f) b ring left intake calls is e = absurd is
+heard_end_rest {B} {H} V (at.Writing keeps) b ring left intake calls is e = absurd is
+heard_end_rest {B} {H} V (at.Handing now) b ring left intake calls is e = absurd is
+heard_end_rest {B} {H} V at.Refusing b ring left intake calls is e = absurd is
+heard_end_rest {B} {H} V (at.Taken now) b ring left intake calls is e = end_rest V now ring left intake calls b e
+heard_end_rest {B} {H} V (at.Speaking now) b ring left intake calls is e = absurd is
+heard_end_rest {B} {H} V at.Parting b ring left intake calls is e = absurd is
+heard_end_rest {B} {H} V (at.Over w) b ring left intake calls is e = absurd is
+
+-- safety where nothing came
+pub nothing_rest : {B H : Type 0} (a : At B H) (intake : Intake) (held left ring : List ℕ) (calls : ℕ) → IsHearing a → left ≡ []
+    → RestsAt a intake held ring calls → RestsAt a intake left ring calls
+nothing_rest {B} {H} at.Reading intake held left ring calls is e h = absurd is
+nothing_rest {B} {H} at.Asked intake held left ring calls is e h = absurd is
+nothing_rest {B} {H} (at.Refused f) intake held left ring calls is e h = absurd is
+nothing_rest {B} {H} (at.Answering f) intake held left ring calls is e h = absurd is
+nothing_rest {B} {H} (at.Writing keeps) intake held left ring calls is e h = absurd is
+nothing_rest {B} {H} (at.Handing now) intake held left ring calls is e h = absurd is
+nothing_rest {B} {H} at.Refusing intake held left ring calls is e h = absurd is
+nothing_rest {B} {H} (at.Taken now) intake held left ring calls is e h = (e, h.1)
+nothing_rest {B} {H} (at.Speaking now) intake held left ring calls is e h = absurd is
+nothing_rest {B} {H} at.Parting intake held left ring calls is e h = absurd is
+nothing_rest {B} {H} (at.Over w) intake held left ring calls is e h = absurd is

@@ -34,7 +34,7 @@ module _ {H : Type 0} (V : Voice H) (T U : Teller H) (s : Seen) (over : Bool) (g
     stands = stands_agrees T U V over given sent k (replies r) c.held (c.ring ++ behind) (λ i lt q. same i (omega (arith, lt, h.count)) q) h.stands;
   }
 
-  handed_agrees : Handed V T over given sent c → Handed V U over given sent c
+  abbrev handed_agrees : Handed V T over given sent c → Handed V U over given sent c
   handed_agrees h = record {
     k = h.k;
     request = h.request;

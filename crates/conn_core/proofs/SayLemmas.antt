@@ -33,7 +33,7 @@ pub record Saying {B H : Type 0} (a : At B H) (V : Voice H) (T : Teller H) (over
       → HoldsAt a V T s over given sent' (with_ring c ring')
 
 -- what was said to a hijack, with more sent
-handed_back : {H : Type 0} (V : Voice H) (T : Teller H) (over : Bool) (given sent sent' : List ℕ) (c : Kept) (ring' : List ℕ)
+abbrev handed_back : {H : Type 0} (V : Voice H) (T : Teller H) (over : Bool) (given sent sent' : List ℕ) (c : Kept) (ring' : List ℕ)
     (q : Handed V T over given sent c) → Stands V T over given sent' q.k (hands_over q.request q.first) q.rest (ring' ++ [])
     → Handed V T over given sent' (with_ring c ring')
 handed_back {H} V T over given sent sent' c ring' q t = record {
