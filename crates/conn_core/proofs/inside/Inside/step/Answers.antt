@@ -1,6 +1,7 @@
 use Rattle.std.proofs.Common.{◌≡◌, ◌+◌, ◌-◌, ℕ, true, false, List, length, arith, refl, ap, sym, ◌∙◌, None, ◌⊎◌, inl, inr}
 use Rattle.rack_outside.specs.declared.link.LinkRead.TheVariants as read
 use Rattle.talk_core.specs.Counts.{counted_by}
+use Rattle.talk_core.specs.Tail.{Voice}
 use Rattle.conn_core.specs.declared.state.State.TheVariants as state
 use Rattle.conn_core.specs.Place.{state_at as place_as}
 use Rattle.conn_core.specs.Shown.{shows, why_at}
@@ -59,16 +60,19 @@ returns-else-is_spent-2-clause-steps g c =
     c.start.ensures.takes c.start.ensures.left c.start.ensures.few ready none
 
 pub returns-in-NotYet-clause-any : goal.returns-in-NotYet-clause-any
-returns-in-NotYet-clause-any g c = λ V T h.
-    no_run V T c.args.self.now.calls (g.L.Link.seen c.read.new.link) c.read.new.self (c.read.ensures.holds V T h)
+returns-in-NotYet-clause-any g c = λ T h.
+    let V : Voice g.row.H.Denot = record { says = g.H.Hijack.says; ends = g.H.Hijack.ends } in
+    no_run V T c.args.self.now.calls (g.L.Link.seen c.read.new.link) c.read.new.self (c.read.ensures.holds T h)
 
 pub returns-in-Bytes-clause-any : goal.returns-in-Bytes-clause-any
-returns-in-Bytes-clause-any g c = λ V T h.
-    no_run V T c.args.self.now.calls (g.L.Link.seen c.read.new.link) c.read.new.self (c.read.ensures.holds V T h)
+returns-in-Bytes-clause-any g c = λ T h.
+    let V : Voice g.row.H.Denot = record { says = g.H.Hijack.says; ends = g.H.Hijack.ends } in
+    no_run V T c.args.self.now.calls (g.L.Link.seen c.read.new.link) c.read.new.self (c.read.ensures.holds T h)
 
 pub returns-in-End-clause-any : goal.returns-in-End-clause-any
-returns-in-End-clause-any g c = λ V T h.
-    no_run V T c.args.self.now.calls (g.L.Link.seen c.read.new.link) c.read.new.self (c.read.ensures.holds V T h)
+returns-in-End-clause-any g c = λ T h.
+    let V : Voice g.row.H.Denot = record { says = g.H.Hijack.says; ends = g.H.Hijack.ends } in
+    no_run V T c.args.self.now.calls (g.L.Link.seen c.read.new.link) c.read.new.self (c.read.ensures.holds T h)
 
 pub returns-then-is_spent-clause-moves : goal.returns-then-is_spent-clause-moves
 returns-then-is_spent-clause-moves g c =
