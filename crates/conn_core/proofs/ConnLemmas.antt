@@ -251,7 +251,7 @@ told_by {H} S lives local peer stack are same k r =
 pub turn_holds : {B H : Type 0} {g : Ghosts B} (V : Voice H) (S : Stacks H) (old mid new : Inside B H g) (s s' : Seen) (stack : Stack H) → mid ≡ old
     → new.peer ≡ mid.peer → new.local ≡ mid.local → new.lives.items ≡ mid.lives.items → AreLives old.lives.items
     → ((ps : Pairs) (input : List ℕ) → S (last_phase old.lives.items) ps input ≡ stack ps input)
-    → ((W : Voice H) (T : Teller H) → TellsBy T stack mid.local mid.peer → HoldsBy W T s mid → HoldsBy W T s' new)
+    → ((T : Teller H) → TellsBy T stack mid.local mid.peer → HoldsBy V T s mid → HoldsBy V T s' new)
     → HoldsBy V (tell S old.lives.items old.local old.peer None) s old
     → AreLives new.lives.items × HoldsBy V (tell S new.lives.items new.local new.peer None) s' new
 turn_holds {B} {H} {g} V S old mid new s s' stack e peer local lives are same step h =
@@ -260,7 +260,7 @@ turn_holds {B} {H} {g} V S old mid new s s' stack e peer local lives are same st
     subst (λ (x : Inside B H g). (ps : Pairs) (input : List ℕ) → S (last_phase x.lives.items) ps input ≡ stack ps input) (sym e) same in
     let T : Teller H = tell S mid.lives.items mid.local mid.peer None in
     let then : HoldsBy V (tell S mid.lives.items mid.local mid.peer None) s' new =
-    step V T (told_by S mid.lives.items mid.local mid.peer stack are_mid same_mid)
+    step T (told_by S mid.lives.items mid.local mid.peer stack are_mid same_mid)
     (subst (λ (x : Inside B H g). HoldsBy V (tell S x.lives.items x.local x.peer None) s x) (sym e) h) in (
       subst AreLives (sym lives) are_mid,
       subst (λ (x : List Life). HoldsBy V (tell S x new.local new.peer None) s' new) (sym lives)
