@@ -27,12 +27,12 @@ returns-then-is_empty-clause-holds g c = λ T h.
     let p = c.args.self.now in
     let none : c.send.new.ring.items ≡ [] =
     nil_from_length c.send.new.ring.items (grind (arith, nat_tests, c.is_empty.ensures, c.if-is_empty.true)) in
-    let completes : CompletesTo p.at p.intake p.held c.complete-at.result c.complete-at.new.intake c.complete-at.new.held =
-    subst (λ (a : At g.row.B.Denot g.row.H.Denot). CompletesTo a p.intake p.held c.complete-at.result c.complete-at.new.intake c.complete-at.new.held)
-    c.replace-at.ensures.value c.complete-at.ensures in
+    let completes : CompletesTo V p.at p.intake p.held c.complete-at.result c.complete-at.new.intake c.complete-at.new.held c.complete-at.new.ring.items =
+    subst (λ (a : At g.row.B.Denot g.row.H.Denot). CompletesTo V a p.intake p.held c.complete-at.result c.complete-at.new.intake c.complete-at.new.held
+    c.complete-at.new.ring.items) c.replace-at.ensures.value c.complete-at.ensures.completes in
     stands_place c.complete-at.result c.put.new.at V T s' p.peer _ (sym c.put.ensures)
     (completes_hold V T s' p.peer (with_ring (kept p) c.send.new.ring.items) c.complete-at.new.intake c.complete-at.new.held p.ring.items
-    c.send.new.ring.items p.at c.complete-at.result none refl completes c.requires
+    c.complete-at.new.ring.items p.at c.complete-at.result none completes c.requires
     (took p.at V T s s' p.peer (kept p) (filled_says p.at p.ring.items c.requires) c.in-Took.ensures.keeps c.in-Took.ensures.sends.0
     c.send.new.ring.items c.in-Took.ensures.sends.1 c.in-Took.ensures.sends.3 h))
 
