@@ -1,8 +1,10 @@
 -- What a feed leaves.
-use Rattle.std.proofs.Common.{◌≡◌, ◌≢◌, ℕ, ◌<◌, List, length, refl, sym, ap, subst, ◌∙◌, arith, inl, inr}
+use Rattle.std.proofs.Common.{◌≡◌, ◌≢◌, ℕ, ◌<◌, List, length, refl, sym, ap, subst, ◌∙◌, arith, ◌⊎◌, inl, inr}
+use Rattle.rack_types.specs.declared.body.Body.{Ghosts}
 use Rattle.rack_outside.specs.Link.{Seen}
 use Rattle.rack_outside.specs.declared.link.LinkRead.{LinkRead}
 use Rattle.rack_outside.specs.declared.link.LinkRead.TheVariants as read
+use Rattle.conn_core.specs.declared.inside.Inside.{Inside}
 use Rattle.conn_core.specs.declared.place.At.{At}
 use Rattle.conn_core.specs.declared.state.Next.{Next}
 use Rattle.conn_core.specs.declared.state.Next.TheVariants as next
@@ -13,7 +15,7 @@ use Rattle.conn_core.specs.Calls.{FeedEnds, FeedTells, Feeds}
 use Rattle.conn_core.specs.Inner.{IsFed, ReadLeaves, ReadsBy, IsHeard, HearLeaves, HearsBy}
 use Rattle.conn_core.specs.Moves.{OffersRoom, size_of, ReadsOnce}
 use Rattle.conn_core.specs.Place.{state_at}
-use Rattle.conn_core.specs.Shown.{Shown}
+use Rattle.conn_core.specs.Shown.{Shown, shows}
 
 -- what a read that gave bytes leaves
 reads_on : (b : State) → IsFed b → b ≢ state.Over → b ≢ state.Ready → b ≡ state.Reading
@@ -127,3 +129,36 @@ module _ {B H : Type 0} (b : At B H) (o n : Shown) (s u : Seen) (is : n.state �
     ends = feed_ends a s u once.offers;
     tells = hear_tells a result h held f;
   }
+
+-- a read was made for the reader of requests, or for the hijacker that has the connection
+abbrev pub Went : LinkRead → Shown → Shown → Seen → Seen → Type 0
+Went a o n s u = (((o.state ≡ state.Reading) × ReadsBy a o n s u) ⊎ ((o.state ≡ state.Hijacked) × HearsBy a o n s u)) × ReadsOnce a o n s u
+
+pub feeding_end : {B H : Type 0} (b : At B H) (o n : Shown) (s u : Seen) (a : LinkRead) (result : Next) → n.state ≡ state_at b → Went a o n s u
+    → AnswersSo a result b → Feeds result o n s u
+feeding_end {B} {H} b o n s u a result is went f =
+    elim went.0 [
+      | inl by ↦ feeding_read b o n s u is a result by.1 went.1 by.0 f
+      | inr by ↦ feeding_heard b o n s u is a result by.1 went.1 by.0 f
+    ]
+
+-- the same, where two ways come together
+pub went_same : {B H L : Type 0} {g : Ghosts B} (seen : L → Seen) (o : Shown) (s : Seen) (new now : Inside B H g) (k l : L) (a d : LinkRead)
+    → now ≡ new → l ≡ k → d ≡ a → Went a o (shows new) s (seen k) → Went d o (shows now) s (seen l)
+went_same {B} {H} {L} {g} seen o s new now k l a d self link is went =
+    subst (λ (x : Inside B H g). Went d o (shows x) s (seen l)) (sym self)
+    (subst (λ (x : L). Went d o (shows new) s (seen x)) (sym link)
+    (subst (λ (x : LinkRead). Went x o (shows new) s (seen k)) (sym is) went))
+
+-- another state than Reading
+pub unread : (x : State) → (x ≡ state.Ready) ⊎ ((x ≡ state.Answering) ⊎ ((x ≡ state.Hijacked) ⊎ (x ≡ state.Over))) → x ≢ state.Reading
+unread x h e = elim h [ inl i ↦ cc | inr j ↦ elim j [ inl i ↦ cc | inr k ↦ elim k [ inl i ↦ cc | inr i ↦ cc ] ] ]
+
+-- a read that gave bytes, or the peer's end
+pub fed_so : {B H : Type 0} (a : LinkRead) (result : Next) (b : At B H) → ((k : ℕ) × (a ≡ read.Bytes k)) ⊎ (a ≡ read.End) → FedSo result b
+    → AnswersSo a result b
+fed_so {B} {H} a result b h f =
+    elim h [
+      | inl gave ↦ subst (λ (x : LinkRead). AnswersSo x result b) (sym gave.1) f
+      | inr ended ↦ subst (λ (x : LinkRead). AnswersSo x result b) (sym ended) f
+    ]

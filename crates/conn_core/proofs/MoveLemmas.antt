@@ -23,7 +23,7 @@ use Rattle.conn_core.specs.Inner.{IsFilledAt}
 use Rattle.conn_core.specs.Moves.{ring_room, FedTo, ToldTo, StillOwes, KeptTo, BehindWrite, OwesAs, OwesRightly, Move, Moment, Makes, Goes, IsOwing}
 use Rattle.conn_core.specs.Place.{IsSaying, IsHearing, MayRead, state_at}
 use Rattle.conn_core.specs.Rests.{RestsAt}
-use Rattle.conn_core.specs.Shown.{shows, replied_at, owed_at, why_at, after_at, sure_at}
+use Rattle.conn_core.specs.Shown.{shows, replied_at, owed_at, why_at, fault_at, after_at, sure_at}
 use Rattle.conn_core.specs.Steps.{FeedsHeld, Tells, CompletesTo}
 use Rattle.conn_core.proofs.FilledLemmas.{shown_at}
 use Rattle.conn_core.proofs.SaidLemmas.{filled_ring, filled_owes}
@@ -414,3 +414,17 @@ module _ {B H : Type 0} (peer : List ℕ) (local : Local) (lives : List Life) (c
 pub refused_ring : {B H : Type 0} (a : At B H) (fault : Fault) (intake : Intake) (held ring : List ℕ) (calls : ℕ) → a ≡ at.Refused fault
     → RestsAt a intake held ring calls → ring ≡ []
 refused_ring {B} {H} a fault intake held ring calls e h = (subst (λ (b : At B H). RestsAt b intake held ring calls) e h).0
+
+-- none stands where a request does
+pub unrefused : {B H : Type 0} (a : At B H) → state_at a ≡ state.Ready → ((fault : Fault) → a ≡ at.Refused fault → ⊥) → fault_at a ≡ None
+unrefused {B} {H} at.Reading e not = cc
+unrefused {B} {H} at.Asked e not = refl
+unrefused {B} {H} (at.Refused f) e not = absurd (not f refl)
+unrefused {B} {H} (at.Answering f) e not = cc
+unrefused {B} {H} (at.Writing keeps) e not = cc
+unrefused {B} {H} (at.Handing h) e not = cc
+unrefused {B} {H} at.Refusing e not = cc
+unrefused {B} {H} (at.Taken h) e not = cc
+unrefused {B} {H} (at.Speaking h) e not = cc
+unrefused {B} {H} at.Parting e not = cc
+unrefused {B} {H} (at.Over w) e not = cc

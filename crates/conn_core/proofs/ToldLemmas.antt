@@ -147,10 +147,10 @@ one_less : (calls : ℕ) → calls + 1 - 1 ≡ calls
 one_less calls = omega arith
 
 -- what is shown behind a run, by the replies that were sent whole and the bytes that are held
-module _ {B H : Type 0} (V : Voice H) (o n : Shown) (calls : ℕ) (first : o.replied ≡ calls) where
-  more_replied : n.replied ≡ calls + 1 → n.replied ≡ o.replied + 1
-  more_replied e = e ∙ ap (λ (k : ℕ). k + 1) (sym first)
+more_replied : (o n : Shown) (calls : ℕ) → o.replied ≡ calls → n.replied ≡ calls + 1 → n.replied ≡ o.replied + 1
+more_replied o n calls first e = e ∙ ap (λ (k : ℕ). k + 1) (sym first)
 
+module _ {B H : Type 0} (V : Voice H) (o n : Shown) (calls : ℕ) (first : o.replied ≡ calls) where
   -- a hijacker took the connection over
   told_starts : (h : H) (b : At B H) (piece ring left : List ℕ) → n.replied ≡ replied_at b (calls + 1) → Tells V h piece b ring left
       → StartsAs (state_at b) (why_at b) o n
@@ -161,9 +161,9 @@ module _ {B H : Type 0} (V : Voice H) (o n : Shown) (calls : ℕ) (first : o.rep
   told_starts h (at.Writing keeps) piece ring left last t = absurd t
   told_starts h (at.Handing now) piece ring left last t = absurd t
   told_starts h at.Refusing piece ring left last t = absurd t
-  told_starts h (at.Taken now) piece ring left last t = (refl, more_replied last)
-  told_starts h (at.Speaking now) piece ring left last t = (refl, more_replied last)
-  told_starts h at.Parting piece ring left last t = (refl, more_replied last)
+  told_starts h (at.Taken now) piece ring left last t = (refl, more_replied o n calls first last)
+  told_starts h (at.Speaking now) piece ring left last t = (refl, more_replied o n calls first last)
+  told_starts h at.Parting piece ring left last t = (refl, more_replied o n calls first last)
   told_starts h (at.Over why.Closed) piece ring left last t = absurd t
   told_starts h (at.Over why.PeerEnd) piece ring left last t = absurd t
   told_starts h (at.Over (why.Idle by)) piece ring left last t = absurd t

@@ -141,3 +141,13 @@ returns-else-is_saying-clause-leaves g c =
     let held : place_as c.args.self.now.at ≡ state.Hijacked = sym c.state_at.ensures ∙ c.in-Hijacked.is in
     let hears = silent_hears c.args.self.now.at c.is_saying.result held c.is_saying.ensures c.if-is_saying.false in
     inr (inl hears)
+
+pub returns-then-is_saying-clause-any : goal.returns-then-is_saying-clause-any
+returns-then-is_saying-clause-any g c = λ T h.
+    let V : Voice g.row.H.Denot = record { says = g.H.Hijack.says; ends = g.H.Hijack.ends } in
+    no_run V T c.args.self.now.calls (g.L.Link.seen c.speak.new.link) c.speak.new.self (c.speak.ensures.holds T h)
+
+pub returns-in-Answering-clause-any : goal.returns-in-Answering-clause-any
+returns-in-Answering-clause-any g c = λ T h.
+    let V : Voice g.row.H.Denot = record { says = g.H.Hijack.says; ends = g.H.Hijack.ends } in
+    no_run V T c.args.self.now.calls (g.L.Link.seen c.speak-in-Answering.new.link) c.speak-in-Answering.new.self (c.speak-in-Answering.ensures.holds T h)

@@ -21,8 +21,8 @@ loop-self-init g c = record {
   steady = c.start.ensures.steady;
 }
 
-pub step-requires-clause-room : goal.step-requires-clause-room
-step-requires-clause-room g c = omega (arith, c.loop-self.invariant.counts, c.requires.room)
+pub step-requires : goal.step-requires
+step-requires g c = omega (arith, c.loop-self.invariant.counts, c.requires.room)
 
 pub loop-self-smaller : goal.loop-self-smaller
 loop-self-smaller g c = c.in-GoesOn.ensures.leaves
