@@ -1,12 +1,11 @@
 -- What stands once the ring was filled.
-use Rattle.std.proofs.Common.{◌≡◌, ◌≢◌, ◌↔◌, ℕ, ◌+◌, ◌<◌, Bool, true, false, IsTrue, List, [], ◌++◌, length, refl, sym, ap, subst, ◌∙◌, arith, length-append, Option, Ok}
+use Rattle.std.proofs.Common.{◌≡◌, ◌≢◌, ℕ, ◌+◌, ◌<◌, Bool, List, [], ◌++◌, length, refl, sym, ap, subst, ◌∙◌, arith, length-append, Option, Ok}
 use Rattle.std.proofs.lemmas.List.{append-nil}
 use Rattle.circular_buffer.specs.Buffer.{Buffer}
 use Rattle.rack_types.specs.declared.rules.BodyRule.{BodyRule}
 use Rattle.rack_outside.specs.Link.{Seen}
 use Rattle.message_framing.specs.declared.intake.Intake.{Intake}
 use Rattle.reply_framing.specs.declared.types.After.{After}
-use Rattle.reply_framing.specs.declared.types.After.TheVariants.{Keep, Close, Hijack}
 use Rattle.reply_framing.specs.declared.types.Filled.{Filled}
 use Rattle.reply_framing.specs.declared.types.Filled.TheVariants.{Full, Done, Broke}
 use Rattle.reply_framing.specs.Coming.{Coming, Rest}

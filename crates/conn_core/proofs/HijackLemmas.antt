@@ -1,5 +1,5 @@
 -- What stands once a hijacker was told something.
-use Rattle.std.proofs.Common.{◌≡◌, ℕ, suc, ◌+◌, ◌<◌, Bool, true, false, if◌then◌else◌, List, [], ◌∷◌, ◌++◌, length, refl, sym, ap, subst, ◌∙◌, append_assoc, arith, Some, inr}
+use Rattle.std.proofs.Common.{◌≡◌, ℕ, suc, ◌+◌, Bool, true, false, if◌then◌else◌, List, [], ◌++◌, refl, sym, ap, subst, ◌∙◌, append_assoc, arith, Some, inr}
 use Rattle.std.proofs.lemmas.List.{append-nil}
 use Rattle.hijack_core.specs.declared.hijack.Said.{Said}
 use Rattle.hijack_core.specs.Said.{GoesOnAs}
@@ -11,13 +11,13 @@ use Rattle.message_framing.specs.declared.intake.Intake.{Intake}
 use Rattle.reply_framing.specs.declared.types.After.TheVariants.{Hijack}
 use Rattle.talk_core.specs.declared.ended.Why.TheVariants as why
 use Rattle.talk_core.specs.Ended.{NeedsDrain}
-use Rattle.talk_core.specs.Stands.{Stands, replies, hands_over, Partly}
+use Rattle.talk_core.specs.Stands.{Stands, replies, hands_over}
 use Rattle.talk_core.specs.Tail.{Voice, tail_of, goes_on}
 use Rattle.talk_core.specs.Teller.{Teller}
 use Rattle.talk_core.proofs.CallerLemmas.{stands_handed, stands_heard, stands_over, tail_so_far, whole_handed, shows_given, shows_unread, shows_over}
 use Rattle.conn_core.specs.declared.place.At.{At}
 use Rattle.conn_core.specs.declared.place.At.TheVariants as at
-use Rattle.conn_core.specs.Holds.{Kept, past, Replying, Handed, Hears, SaidLast, HoldsAt, StandsAt}
+use Rattle.conn_core.specs.Holds.{Kept, past, Handed, Hears, HoldsAt, StandsAt}
 use Rattle.conn_core.specs.Place.{IsHearing}
 use Rattle.conn_core.specs.Plain.{EndsPlainly}
 use Rattle.conn_core.specs.Rests.{RestsAt}

@@ -1,5 +1,5 @@
 -- What each read and each write of a connection is, as a move, and lists of moves.
-use Rattle.std.proofs.Common.{◌≡◌, ◌≢◌, ◌↔◌, ℕ, ◌+◌, ◌-◌, ◌<◌, ◌≤◌, Bool, true, false, IsTrue, List, [], ◌∷◌, ◌++◌, length, take, drop, refl, sym, ap, subst, ◌∙◌, arith, length-append, Option, None, ◌⊎◌, inl, inr}
+use Rattle.std.proofs.Common.{◌≡◌, ◌≢◌, ◌↔◌, ℕ, ◌+◌, ◌-◌, ◌<◌, ◌≤◌, Bool, true, false, IsTrue, List, [], ◌∷◌, ◌++◌, length, take, drop, refl, sym, ap, subst, ◌∙◌, arith, length-append, None, ◌⊎◌, inl, inr}
 use Rattle.std.proofs.Math.Seq.{take-append_seam}
 use Rattle.std.proofs.lemmas.List.{take_all, drop-append-le}
 use Rattle.rack_types.specs.declared.body.Body.{Ghosts}
@@ -8,19 +8,16 @@ use Rattle.rack_types.specs.declared.peer.Local.{Local}
 use Rattle.rack_outside.specs.declared.link.LinkWrite.TheVariants as write
 use Rattle.message_framing.specs.declared.intake.Intake.{Intake}
 use Rattle.message_framing.specs.Intake.{Fed}
-use Rattle.reply_framing.specs.declared.types.After.TheVariants.{Keep}
 use Rattle.talk_core.specs.declared.ended.Life.{Life}
-use Rattle.talk_core.specs.declared.ended.Why.{Why}
 use Rattle.talk_core.specs.declared.ended.Why.TheVariants as why
 use Rattle.talk_core.specs.Tail.{Voice}
 use Rattle.conn_core.specs.declared.inside.Inside.{Inside}
 use Rattle.conn_core.specs.declared.place.At.{At}
 use Rattle.conn_core.specs.declared.place.At.TheVariants as at
-use Rattle.conn_core.specs.declared.state.State.{State}
 use Rattle.conn_core.specs.declared.state.State.TheVariants as state
 use Rattle.conn_core.specs.Calls.{MayFeed}
 use Rattle.conn_core.specs.Inner.{IsFilledAt}
-use Rattle.conn_core.specs.Moves.{ring_room, FedTo, ToldTo, StillOwes, KeptTo, BehindWrite, OwesAs, OwesRightly, Move, Moment, Makes, Goes, IsOwing}
+use Rattle.conn_core.specs.Moves.{ring_room, FedTo, ToldTo, KeptTo, BehindWrite, OwesAs, OwesRightly, Move, Moment, Makes, Goes, IsOwing}
 use Rattle.conn_core.specs.Place.{IsSaying, IsHearing, MayRead, state_at}
 use Rattle.conn_core.specs.Rests.{RestsAt}
 use Rattle.conn_core.specs.Shown.{shows, replied_at, owed_at, why_at, fault_at, after_at, sure_at}

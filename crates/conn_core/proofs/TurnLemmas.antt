@@ -28,7 +28,7 @@ use Rattle.conn_core.specs.declared.state.Next.TheVariants as next
 use Rattle.conn_core.specs.declared.state.State.{State}
 use Rattle.conn_core.specs.declared.state.State.TheVariants as state
 use Rattle.conn_core.specs.Answers.{TurnedSo, FlushedSo}
-use Rattle.conn_core.specs.Calls.{TurnEnds, RestsBehind, IsSpent, IsHandedOver, TurnTells, Turns, Leaves, GotOnHijacked, IsStillOwing, FlushTells, Flushes, IsOfFlush}
+use Rattle.conn_core.specs.Calls.{TurnEnds, RestsBehind, IsSpent, IsHandedOver, TurnTells, Turns, Leaves, IsStillOwing, FlushTells, Flushes, IsOfFlush}
 use Rattle.conn_core.specs.Inner.{IsFed, ReadLeaves, ReadsBy, TakesUp, TellsBy, writes_of, HijackedOn, SaysOn, SaidLeaves, Says, Steps, IsSpentLeft, StepLeaves}
 use Rattle.conn_core.specs.Moves.{SameShown, StartsAs, IsOwing}
 use Rattle.conn_core.specs.Place.{IsSaying, IsHearing, state_at}

@@ -11,7 +11,6 @@ use Rattle.rack_outside.specs.declared.link.LinkRead.TheVariants as read
 use Rattle.rack_outside.specs.declared.link.LinkWrite.{LinkWrite}
 use Rattle.rack_outside.specs.declared.link.LinkWrite.TheVariants as write
 use Rattle.talk_core.specs.Counts.{counted_by}
-use Rattle.talk_core.specs.declared.ended.Why.TheVariants as why
 use Rattle.talk_core.specs.Teller.{Stack, Teller, reply_of, is_last}
 use Rattle.conn_core.specs.declared.left.Left.{Left}
 use Rattle.conn_core.specs.declared.left.Said.{Said}

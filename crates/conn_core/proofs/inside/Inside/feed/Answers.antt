@@ -1,6 +1,5 @@
 use Rattle.std.proofs.Common.{◌≡◌, refl, sym, subst, ◌∙◌, inl, inr}
 use Rattle.rack_outside.specs.declared.link.LinkRead.{LinkRead}
-use Rattle.rack_outside.specs.declared.link.LinkRead.TheVariants as read
 use Rattle.conn_core.specs.declared.state.Next.TheVariants as next
 use Rattle.conn_core.specs.declared.state.State.TheVariants as state
 use Rattle.conn_core.specs.Place.{state_at}

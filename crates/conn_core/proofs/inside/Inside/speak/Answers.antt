@@ -1,4 +1,4 @@
-use Rattle.std.proofs.Common.{◌≡◌, ◌+◌, ◌-◌, ℕ, true, false, arith, refl, None, ◌⊎◌, inl, inr}
+use Rattle.std.proofs.Common.{◌≡◌, ◌+◌, ◌-◌, true, false, arith, refl, None, ◌⊎◌, inl, inr}
 use Rattle.rack_outside.specs.declared.link.LinkWrite.TheVariants as write
 use Rattle.conn_core.specs.declared.left.Said.TheVariants as said
 use Rattle.conn_core.specs.Shown.{shows, why_at}

@@ -1,4 +1,4 @@
-use Rattle.std.proofs.Common.{◌≡◌, ◌+◌, ◌-◌, ℕ, true, false, List, length, arith, refl, ap, sym, ◌∙◌, None, ◌⊎◌, inl, inr}
+use Rattle.std.proofs.Common.{◌≡◌, ℕ, true, false, List, length, refl, ap, sym, ◌∙◌, None, inl, inr}
 use Rattle.rack_outside.specs.declared.link.LinkRead.TheVariants as read
 use Rattle.talk_core.specs.Counts.{counted_by}
 use Rattle.talk_core.specs.Tail.{Voice}
