@@ -47,7 +47,7 @@ goes_then {H} V h now later bytes piece first second = record {
       ap (V.says h) (append_assoc bytes piece more) ∙ first.joined (piece ++ more)
       ∙ ap (λ (s : Said). record { bytes = (V.says h bytes).bytes ++ s.bytes; go_on = s.go_on }) (second.joined more)
       ∙ ap (λ (xs : List ℕ). record { bytes = xs; go_on = (V.says later more).go_on })
-        (sym (append_assoc (V.says h bytes).bytes (V.says now piece).bytes (V.says later more).bytes))
+      (sym (append_assoc (V.says h bytes).bytes (V.says now piece).bytes (V.says later more).bytes))
       ∙ ap (λ (s : Said). record { bytes = s.bytes ++ (V.says later more).bytes; go_on = (V.says later more).go_on }) (sym (first.joined piece));
   ended = λ more. ap (V.ends h) (append_assoc bytes piece more) ∙ first.ended (piece ++ more) ∙ second.ended more;
 }
@@ -82,7 +82,7 @@ module _ {B H : Type 0} (V : Voice H) (T : Teller H) (s : Seen) (over : Bool) (g
   pub told_at : (now : H) (piece ring left : List ℕ) (b : At B H) → Tells V now piece b ring left → over ≡ false
       → (V.says first rest).go_on ≡ (V.says now piece).go_on
       → ((later : H) → GoesOnAs (V.says now) (V.ends now) piece (V.says later) (V.ends later)
-        → GoesOnAs (V.says first) (V.ends first) rest (V.says later) (V.ends later))
+      → GoesOnAs (V.says first) (V.ends first) rest (V.says later) (V.ends later))
       → Stands V T over given sent k (hands_over r first) rest (V.says now piece).bytes
       → HoldsAt b V T s over given sent (with_told c ring left)
   told_at now piece ring left at.Reading e live same behind stands = absurd e

@@ -345,7 +345,7 @@ module _ {B H : Type 0} (peer : List ℕ) (local : Local) (lives : List Life) (c
   kept_fed : (b : At B H) (before ring held left : List ℕ) (fresh new : Intake) → Fed fresh [] → FeedsHeld fresh held new left b → ring ≡ []
       → 0 < calls
       → KeptTo (state_at b) (why_at b) (shown_at {B = B} {H = H} (at.Writing true) before held peer local lives calls taken)
-          (shown_at b ring left peer local lives calls taken)
+      (shown_at b ring left peer local lives calls taken)
   kept_fed at.Reading before ring held left fresh new empty f none some = (refl, one_more calls some, none)
   kept_fed at.Asked before ring held left fresh new empty f none some = (refl, one_more calls some, none)
   kept_fed (at.Refused fault) before ring held left fresh new empty f none some = (refl, one_more calls some, none)
@@ -397,12 +397,15 @@ module _ {B H : Type 0} (peer : List ℕ) (local : Local) (lives : List Life) (c
       inr (sym off, (ap (λ (d : At B H). state_at d) e.0, ap (λ (d : At B H). why_at d) e.0))
   took_all V (at.Taken h) b before ring held left n old new e is rests off few = absurd is
   took_all V (at.Speaking h) b before ring held left n old new e is rests off few =
-      inr (sym off, (
-        ap (λ (d : At B H). state_at d) e.0,
-        ap (λ (d : At B H). why_at d) e.0,
-        ap (λ (d : At B H). replied_at d calls) e.0,
-        ap (λ (d : At B H). owed_at d ring) e.0 ∙ e.2,
-      ))
+      inr (
+        sym off,
+        (
+          ap (λ (d : At B H). state_at d) e.0,
+          ap (λ (d : At B H). why_at d) e.0,
+          ap (λ (d : At B H). replied_at d calls) e.0,
+          ap (λ (d : At B H). owed_at d ring) e.0 ∙ e.2,
+        ),
+      )
   took_all V at.Parting b before ring held left n old new e is rests off few =
       inr (sym off, (ap (λ (d : At B H). state_at d) e.0, ap (λ (d : At B H). why_at d) e.0))
   took_all V (at.Over w) b before ring held left n old new e is rests off few = absurd is

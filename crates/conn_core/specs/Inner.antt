@@ -199,7 +199,7 @@ abbrev pub TakesUp : ℕ → Shown → Shown → Type 0
 TakesUp runs old new =
     ((runs ≡ 1) × (old.fault ≡ None) × Starts old new)
     ⊎ ((runs ≡ 0)
-        × (((fault : Fault) × (old.fault ≡ Some fault) × NamesFault fault old new) ⊎ ((old.fault ≡ None) × WantsMemory old new)))
+    × (((fault : Fault) × (old.fault ≡ Some fault) × NamesFault fault old new) ⊎ ((old.fault ≡ None) × WantsMemory old new)))
 
 -- how a step that says went: memory was refused, or it was one write
 abbrev pub SaysOnce : Said → Shown → Shown → Seen → Seen → Type 0
