@@ -16,6 +16,7 @@ pub mod MovingLemmas
 pub mod ToldLemmas
 pub mod FedLemmas
 pub mod TurnLemmas
+pub mod FlushLemmas
 pub mod SaidLemmas
 pub mod SaysLemmas
 pub mod WorkLemmas

@@ -4,7 +4,7 @@ use Rattle.conn_core.specs.Holds.{HoldsBy}
 use Rattle.conn_core.specs.Moves.{flush_at}
 use Rattle.conn_core.specs.Shown.{shows}
 use Rattle.conn_core.proofs.MovingLemmas.{Moving}
-use Rattle.conn_core.proofs.TurnLemmas.{Flushing, Falling}
+use Rattle.conn_core.proofs.FlushLemmas.{Flushing, Falling}
 use Rattle.conn_core.proofs.inside.Inside.flush.Given as goal
 
 abbrev pub invariant-loop-writes : goal.invariant-loop-writes
