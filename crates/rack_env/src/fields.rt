@@ -14,6 +14,9 @@ const HTTP_HOST: &[u8] = b"HTTP_HOST";
 // The length of `HTTP_`, with which each name begins.
 const PREFIX: usize = 5;
 
+// How much longer than a name asks for the room is made, so that it seldom grows.
+const SPARE: usize = 64;
+
 /// Puts the fields behind what is there, with the target's authority for the Host field.
 pub(crate) fn put_fields(env: &mut Env, request: &Request) -> Result<(), NoMemory>
     ensures { OnOk result (env.new ≡ with_pairs env.old
@@ -86,7 +89,7 @@ fn write_name(room: &mut Vec<u8>, field: &[u8]) -> Result<(), NoMemory>
     let groups = field.len() / 8 + 1;
     let end = PREFIX + groups * 8;
     if room.len() < end {
-        room.resize(end, 0)?;
+        room.resize(end + SPARE, 0)?;
     }
     let (prefix, place) = room.as_mut_slice().split_at_mut(PREFIX);
     prefix.copy_from_slice(b"HTTP_");
