@@ -2,20 +2,21 @@
 use Rattle.std.proofs.Common.{◌≡◌, ℕ, Bool, true, false, List, [], ◌∷◌, ◌++◌, length, Option, Some, None, codes, refl}
 use Rattle.std.specs.Fmt.{digits}
 use Rattle.httparse.specs.Grammar.{is_token_byte}
-use Rattle.hijack_core.specs.declared.never.Never.{Never}
+use Rattle.hijack_core.specs.declared.stock.Stock.{Stock}
+use Rattle.hijack_core.specs.declared.stock.Stock.TheVariants as stock
 use Rattle.rack_text.specs.Escaped.{escaped, spelling}
 use Rattle.rack_types.specs.declared.answer.Answer.{Answer}
-use Rattle.rack_types.specs.declared.answer.Answer.TheVariants.{Reply, Raised}
+use Rattle.rack_types.specs.declared.answer.Answer.TheVariants.{Reply, Raised, Taken}
 use Rattle.rack_types.specs.declared.body.Kind.{Kind}
 use Rattle.rack_types.specs.declared.body.Kind.TheVariants.{Enumerable, Streaming}
 use Rattle.rack_types.specs.declared.rules.Rule.{Rule}
 use Rattle.rack_types.specs.declared.rules.Set.TheVariants.{Server, Full}
-use Rattle.rack_types.specs.AnswerRules.{broken_rule, broken_head_rule, rule}
+use Rattle.rack_types.specs.AnswerRules.{broken_rule, broken_head_rule, broken_taken_rule, rule}
 use Rattle.rack_types.specs.Body.{Content}
 use Rattle.rack_types.specs.Env.{Pairs}
 use Rattle.rack_types.specs.Headers.{HeaderList}
 use Rattle.stock_apps.specs.declared.app.App.{App}
-use Rattle.stock_apps.specs.declared.app.App.TheVariants.{Text, Echo, Env, Pieces, Stream, Cookies, Bad, Raise, Late}
+use Rattle.stock_apps.specs.declared.app.App.TheVariants.{Text, Echo, Env, Pieces, Stream, Cookies, Bad, Raise, Late, Take, Part}
 use Rattle.stock_apps.specs.Answers.{app_answer}
 use Rattle.stock_apps.specs.Lines.{pair_lines}
 
@@ -35,10 +36,10 @@ unfolding escaped spelling
 lines = (refl, refl, refl, refl)
 
 -- the answer to that request with this input
-abbrev of : App → List ℕ → Answer Content Never
+abbrev of : App → List ℕ → Answer Content Stock
 of app input = app_answer app asked input
 
-abbrev reply : ℕ → HeaderList → List (List ℕ) → Bool → Option ℕ → Kind → Answer Content Never
+abbrev reply : ℕ → HeaderList → List (List ℕ) → Bool → Option ℕ → Kind → Answer Content Stock
 reply status headers pieces raises known kind =
     Reply status headers (record { pieces = pieces; raises = raises; known = known; kind = kind; sure = true }) None
 
@@ -69,11 +70,20 @@ others : (of (Cookies (codes "a=1" ∷ codes "b=2" ∷ [])) [] ≡ reply 200 ((c
 unfolding digits
 others = (refl, refl, refl, refl, refl, refl, refl, refl)
 
+-- nothing is said but the status, of any value, and who takes the connection over
+abbrev nothing : Content
+nothing = record { pieces = []; raises = false; known = None; kind = Enumerable; sure = true }
+
+hijacks : (of (Take false) (codes "hello") ≡ Taken stock.Echo) × (of (Take true) [] ≡ Taken stock.Upper)
+    × (of (Part 200 false) (codes "hello") ≡ Reply 200 [] nothing (Some stock.Echo)) × (of (Part 101 true) [] ≡ Reply 101 [] nothing (Some stock.Upper))
+    × (of (Part 999 true) [] ≡ Reply 999 [] nothing (Some stock.Upper))
+hijacks = (refl, refl, refl, refl, refl)
+
 -- an answer with these numbers
-abbrev bad : List ℕ → Answer Content Never
+abbrev bad : List ℕ → Answer Content Stock
 bad numbers = of (Bad numbers) []
 
-abbrev ok : ℕ → HeaderList → Answer Content Never
+abbrev ok : ℕ → HeaderList → Answer Content Stock
 ok status headers = reply status headers (codes "ok" ∷ []) false (Some 2) Enumerable
 
 bad_answers : (bad (1 ∷ []) ≡ ok 99 []) × (bad (2 ∷ []) ≡ ok 200 ((codes "a b", codes "x" ∷ []) ∷ [])) × (bad (3 ∷ []) ≡ ok 200 ((codes "status", codes "x" ∷ []) ∷ []))
@@ -92,5 +102,7 @@ rules_broken : (broken_rule Server asked (bad (5 ∷ 4 ∷ [])) ≡ L 4) × (bro
     × (broken_rule Server asked (bad (8 ∷ 7 ∷ 6 ∷ 5 ∷ 4 ∷ 3 ∷ 2 ∷ 1 ∷ [])) ≡ L 1) × (broken_rule Server asked (bad (9 ∷ [])) ≡ None) × (broken_rule Server asked (of (Raise (codes "oops")) []) ≡ L 0)
     × (broken_rule Server asked (of (Text 200 (codes "text/plain") (codes "hello")) []) ≡ None) × (broken_rule Server asked (of (Text 204 (codes "text/plain") []) []) ≡ L 6)
     × (broken_rule Full asked (of (Late 5 (codes "abc" ∷ []) true) []) ≡ None)
-unfolding broken_head_rule digits is_token_byte
-rules_broken = (refl, refl, refl, refl, refl, refl, refl, refl, refl)
+    × (broken_rule Full asked (of (Take true) []) ≡ None) × (broken_rule Full asked (of (Part 200 false) []) ≡ None) × (broken_rule Full asked (of (Part 99 false) []) ≡ L 1)
+    × (broken_rule Server [] (of (Take true) []) ≡ L 9) × (broken_rule Server [] (of (Part 200 false) []) ≡ L 9)
+unfolding broken_head_rule broken_taken_rule digits is_token_byte
+rules_broken = (refl, refl, refl, refl, refl, refl, refl, refl, refl, refl, refl, refl, refl, refl)

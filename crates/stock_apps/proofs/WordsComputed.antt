@@ -2,7 +2,7 @@
 use Rattle.std.proofs.Common.{◌≡◌, ℕ, true, false, List, [], ◌∷◌, codes, refl}
 use Rattle.std.specs.Prelude.{Result, Ok, Err}
 use Rattle.stock_apps.specs.declared.app.App.{App}
-use Rattle.stock_apps.specs.declared.app.App.TheVariants.{Text, Echo, Env, Pieces, Stream, Cookies, Bad, Raise, Late}
+use Rattle.stock_apps.specs.declared.app.App.TheVariants.{Text, Echo, Env, Pieces, Stream, Cookies, Bad, Raise, Late, Take, Part}
 use Rattle.stock_apps.specs.declared.words.WordsFault.{WordsFault}
 use Rattle.stock_apps.specs.declared.words.WordsFault.TheVariants.{Unknown, Count, Form}
 use Rattle.stock_apps.specs.Words.{app_of, name_of}
@@ -19,10 +19,16 @@ bad numbers = app_of (codes "bad") numbers
 abbrev late : List (List ℕ) → Result App WordsFault
 late arguments = app_of (codes "late") arguments
 
+abbrev part : List (List ℕ) → Result App WordsFault
+part arguments = app_of (codes "part") arguments
+
+abbrev take : List (List ℕ) → Result App WordsFault
+take arguments = app_of (codes "take") arguments
+
 abbrev bang : List ℕ
 bang = codes "!"
 
-names : (app_of [] [] ≡ Err Unknown) × (app_of (codes "Text") [] ≡ Err Unknown) × (app_of (codes "take") (codes "echo" ∷ []) ≡ Err Unknown) × (app_of (codes "part") [] ≡ Err Unknown)
+names : (app_of [] [] ≡ Err Unknown) × (app_of (codes "Text") [] ≡ Err Unknown) × (app_of (codes "Take") (codes "echo" ∷ []) ≡ Err Unknown) × (app_of (codes "parts") [] ≡ Err Unknown)
     × (app_of (codes "texts") [] ≡ Err Unknown) × (app_of (codes "echo") [] ≡ Ok Echo) × (app_of (codes "echo") ([] ∷ []) ≡ Err Count) × (app_of (codes "env") [] ≡ Ok Env) × (app_of (codes "env") (codes "x" ∷ []) ≡ Err Count)
     × (app_of (codes "raise") (codes "oops" ∷ []) ≡ Ok (Raise (codes "oops"))) × (app_of (codes "raise") [] ≡ Err Count) × (app_of (codes "raise") ([] ∷ [] ∷ []) ≡ Err Count)
     × (app_of (codes "cookies") [] ≡ Err Count) × (app_of (codes "cookies") ([] ∷ []) ≡ Ok (Cookies ([] ∷ []))) × (app_of (codes "stream") [] ≡ Ok (Stream []))
@@ -56,3 +62,11 @@ marks : (late (codes "5" ∷ codes "abc" ∷ codes "defg" ∷ []) ≡ Ok (Late 5
     × (late (codes "0" ∷ bang ∷ bang ∷ []) ≡ Ok (Late 0 (bang ∷ []) true)) × (late (codes "0" ∷ bang ∷ [] ∷ []) ≡ Ok (Late 0 (bang ∷ [] ∷ []) false)) × (late (codes "0" ∷ codes "!!" ∷ []) ≡ Ok (Late 0 (codes "!!" ∷ []) false))
 unfolding name_of
 marks = (refl, refl, refl, refl, refl, refl, refl, refl, refl, refl)
+
+-- a hijacker is named `echo` or `upper`
+hijackers : (take (codes "echo" ∷ []) ≡ Ok (Take false)) × (take (codes "upper" ∷ []) ≡ Ok (Take true)) × (take (codes "Echo" ∷ []) ≡ Err Form) × (take (codes "uppe" ∷ []) ≡ Err Form) × (take ([] ∷ []) ≡ Err Form)
+    × (take [] ≡ Err Count) × (take (codes "echo" ∷ codes "upper" ∷ []) ≡ Err Count) × (part (codes "200" ∷ codes "upper" ∷ []) ≡ Ok (Part 200 true)) × (part (codes "0999" ∷ codes "echo" ∷ []) ≡ Ok (Part 999 false))
+    × (part (codes "100" ∷ codes "echo" ∷ []) ≡ Ok (Part 100 false)) × (part (codes "99" ∷ codes "echo" ∷ []) ≡ Err Form) × (part (codes "1000" ∷ codes "echo" ∷ []) ≡ Err Form) × (part (codes "200" ∷ codes "take" ∷ []) ≡ Err Form)
+    × (part (codes "echo" ∷ codes "200" ∷ []) ≡ Err Form) × (part [] ≡ Err Count) × (part (codes "99" ∷ []) ≡ Err Count) × (part (codes "200" ∷ codes "echo" ∷ [] ∷ []) ≡ Err Count)
+unfolding name_of
+hijackers = (refl, refl, refl, refl, refl, refl, refl, refl, refl, refl, refl, refl, refl, refl, refl, refl, refl)

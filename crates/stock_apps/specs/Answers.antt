@@ -1,13 +1,15 @@
 -- What each stock endpoint answers. The endpoints are this project's own.
 use Rattle.std.specs.Prelude.{ℕ, Bool, ◌==◌, ◌||◌, if◌then◌else◌, List, [], ◌∷◌, Option, None, Some, codes, decimal, false}
 use Rattle.std.specs.List.{fold, list_any}
+use Rattle.hijack_core.specs.declared.stock.Stock.{Stock}
+use Rattle.hijack_core.specs.declared.stock.Stock.TheVariants as stock
 use Rattle.rack_types.specs.declared.answer.Answer.{Answer}
-use Rattle.rack_types.specs.declared.answer.Answer.TheVariants.{Reply, Raised}
+use Rattle.rack_types.specs.declared.answer.Answer.TheVariants.{Reply, Raised, Taken}
 use Rattle.rack_types.specs.Body.{Content}
 use Rattle.rack_types.specs.Env.{Pairs}
 use Rattle.rack_types.specs.Headers.{HeaderList, add_header}
 use Rattle.stock_apps.specs.declared.app.App.{App}
-use Rattle.stock_apps.specs.declared.app.App.TheVariants.{Text, Echo, Env, Pieces, Stream, Cookies, Bad, Raise, Late}
+use Rattle.stock_apps.specs.declared.app.App.TheVariants.{Text, Echo, Env, Pieces, Stream, Cookies, Bad, Raise, Late, Take, Part}
 use Rattle.stock_apps.specs.Contents.{one_piece, empty_body, enumerable, streaming, header, plain_type}
 use Rattle.stock_apps.specs.Lines.{pair_lines}
 
@@ -47,11 +49,19 @@ abbrev pub bad_headers : List ℕ → HeaderList
 bad_headers numbers = fold (λ headers n. and_header headers (bad_header n)) [] numbers
 
 -- a reply that leaves the connection with the server
-abbrev pub reply : {H : Type 0} → ℕ → HeaderList → Content → Answer Content H
+abbrev pub reply : ℕ → HeaderList → Content → Answer Content Stock
 reply status headers body = Reply status headers body None
 
+-- the stock hijacker: upper, or else echo
+abbrev pub hijacker : Bool → Stock
+hijacker upper = if upper then stock.Upper else stock.Echo
+
+-- a reply without headers, behind whose head that hijacker takes the connection over
+abbrev pub handed_over : ℕ → Bool → Answer Content Stock
+handed_over status upper = Reply status [] (enumerable [] false) (Some (hijacker upper))
+
 -- what the endpoint answers to an environment with these pairs, and an input of these bytes
-abbrev pub app_answer : {H : Type 0} → App → Pairs → List ℕ → Answer Content H
+abbrev pub app_answer : App → Pairs → List ℕ → Answer Content Stock
 app_answer (Text status kind body) pairs input = reply status (header (codes "content-type") kind) (one_piece body)
 app_answer Echo pairs input = reply 200 plain_type (one_piece input)
 app_answer Env pairs input = reply 200 plain_type (one_piece (pair_lines pairs))
@@ -61,3 +71,5 @@ app_answer (Cookies values) pairs input = reply 200 (cookie_headers values) empt
 app_answer (Bad numbers) pairs input = reply (bad_status numbers) (bad_headers numbers) (one_piece (codes "ok"))
 app_answer (Raise text) pairs input = Raised text
 app_answer (Late length pieces raises) pairs input = reply 200 (header (codes "content-length") (decimal length)) (enumerable pieces raises)
+app_answer (Take upper) pairs input = Taken (hijacker upper)
+app_answer (Part status upper) pairs input = handed_over status upper

@@ -1,8 +1,8 @@
 -- The endpoint that a name and its arguments say, as a line of a stack file has them. This project's own.
-use Rattle.std.specs.Prelude.{ℕ, ◌-◌, Bool, false, ◌&&◌, ◌||◌, ◌==◌, nat_le, if◌then◌else◌, List, [], ◌∷◌, length, take, slice_get, Option, None, Some, option_map, option_and_then, Result, Ok, Err, codes, bytes_eq}
+use Rattle.std.specs.Prelude.{ℕ, ◌-◌, Bool, true, false, ◌&&◌, ◌||◌, ◌==◌, nat_le, if◌then◌else◌, List, [], ◌∷◌, length, take, slice_get, Option, None, Some, option_map, option_and_then, Result, Ok, Err, codes, bytes_eq}
 use Rattle.rack_text.specs.Decimal.{decimal_number}
 use Rattle.stock_apps.specs.declared.app.App.{App}
-use Rattle.stock_apps.specs.declared.app.App.TheVariants.{Text, Echo, Env, Pieces, Stream, Cookies, Bad, Raise, Late}
+use Rattle.stock_apps.specs.declared.app.App.TheVariants.{Text, Echo, Env, Pieces, Stream, Cookies, Bad, Raise, Late, Take, Part}
 use Rattle.stock_apps.specs.declared.words.Named.{Named}
 use Rattle.stock_apps.specs.declared.words.Named.TheVariants as named
 use Rattle.stock_apps.specs.declared.words.WordsFault.{WordsFault}
@@ -51,6 +51,10 @@ is_marked texts = is_mark (slice_get texts (length texts - 1))
 abbrev pub unmarked : List (List ℕ) → List (List ℕ)
 unmarked texts = if is_marked texts then take (length texts - 1) texts else texts
 
+-- whether the stock hijacker that a text names is upper: the names are `echo` and `upper`
+abbrev pub upper_of : List ℕ → Option Bool
+upper_of text = if bytes_eq text (codes "echo") then Some false else if bytes_eq text (codes "upper") then Some true else None
+
 -- the endpoint, where the arguments are of their form
 abbrev pub formed : Option App → Result App WordsFault
 formed None = Err Form
@@ -85,6 +89,19 @@ abbrev pub late_words : List (List ℕ) → Result App WordsFault
 late_words [] = Err Count
 late_words (length ∷ texts) = formed (option_map (λ n. Late n (unmarked texts) (is_marked texts)) (length_of length))
 
+abbrev pub take_words : List (List ℕ) → Result App WordsFault
+take_words (name ∷ []) = formed (option_map Take (upper_of name))
+take_words _ = Err Count
+
+-- a status and a name
+abbrev pub part_of : Option ℕ → Option Bool → Option App
+part_of None upper = None
+part_of (Some status) upper = option_map (λ u. Part status u) upper
+
+abbrev pub part_words : List (List ℕ) → Result App WordsFault
+part_words (status ∷ name ∷ []) = formed (part_of (status_of status) (upper_of name))
+part_words _ = Err Count
+
 -- the name that a word is
 unfoldable pub name_of : List ℕ → Option Named
 name_of word =
@@ -97,6 +114,8 @@ name_of word =
     else if bytes_eq word (codes "bad") then Some named.Bad
     else if bytes_eq word (codes "raise") then Some named.Raise
     else if bytes_eq word (codes "late") then Some named.Late
+    else if bytes_eq word (codes "take") then Some named.Take
+    else if bytes_eq word (codes "part") then Some named.Part
     else None
 
 -- by the name
@@ -111,6 +130,8 @@ named_words (Some named.Cookies) arguments = cookies_words arguments
 named_words (Some named.Bad) arguments = bad_words arguments
 named_words (Some named.Raise) arguments = raise_words arguments
 named_words (Some named.Late) arguments = late_words arguments
+named_words (Some named.Take) arguments = take_words arguments
+named_words (Some named.Part) arguments = part_words arguments
 
 -- the endpoint that the name and the arguments say, or the first of three things that is wrong: no endpoint has the
 -- name, they are too many or too few, or one is not of its form

@@ -50,4 +50,17 @@ pub enum App {
         /// Whether the body raises behind them.
         raises: bool,
     },
+    /// Takes the connection over: a full hijack, to which there is no reply.
+    Take {
+        /// Whether upper takes it, else echo.
+        upper: bool,
+    },
+    /// This status, no headers, and an empty body, enumerable and of no known length. Behind the head the
+    /// connection is taken over: a partial hijack.
+    Part {
+        /// The status.
+        status: u32,
+        /// Whether upper takes it, else echo.
+        upper: bool,
+    },
 }

@@ -9,18 +9,18 @@ use crate::bad::{bad_headers, bad_status};
 use crate::bodies::{copy, empty_body, one_piece, unmeasured};
 use crate::headers::{cookie_headers, plain_type, sized, typed};
 use crate::lines::pair_lines;
-use hijack_core::Never;
+use hijack_core::{Stock, StockHijack};
 use rack_types::{Answer, Endpoint, Env, Headers, Kind, NoMemory, Plain};
 use std::alloc::Global;
 
 impl Endpoint for App {
     type Body = Plain;
 
-    type Take = Never;
+    type Take = StockHijack;
 
     ghost answer = { λ app pairs input. app_answer app pairs input };
 
-    fn call(&self, env: &mut Env) -> Result<Answer<Plain, Never>, NoMemory> {
+    fn call(&self, env: &mut Env) -> Result<Answer<Plain, StockHijack>, NoMemory> {
         let alloc = allocator_of(env);
         match self {
             App::Text { status, kind, body } => {
@@ -62,6 +62,8 @@ impl Endpoint for App {
                 let body = unmeasured(alloc, pieces, *raises, Kind::Enumerable)?;
                 Ok(reply(200, sized(alloc, *length)?, body))
             }
+            App::Take { upper } => Ok(Answer::Taken(Stock::new(alloc, *upper))),
+            App::Part { status, upper } => Ok(handed_over(alloc, *status, *upper)),
         }
     }
 }
@@ -77,7 +79,7 @@ fn allocator_of(env: &mut Env) -> Global
 }
 
 // A reply that leaves the connection with the server.
-fn reply(status: u32, headers: Headers, body: Plain) -> Answer<Plain, Never>
+fn reply(status: u32, headers: Headers, body: Plain) -> Answer<Plain, StockHijack>
     ensures { told (λ b. b.content) result ≡ spec.reply status headers body.content }
 {
     Answer::Reply {
@@ -85,5 +87,17 @@ fn reply(status: u32, headers: Headers, body: Plain) -> Answer<Plain, Never>
         headers,
         body,
         part: None,
+    }
+}
+
+// A reply without headers, behind which a stock hijacker takes the connection over. It takes no memory.
+fn handed_over(alloc: Global, status: u32, upper: bool) -> Answer<Plain, StockHijack>
+    ensures { told (λ b. b.content) result ≡ spec.handed_over status upper }
+{
+    Answer::Reply {
+        status,
+        headers: Headers::new(alloc),
+        body: Plain::new(Vec::new(alloc), false, false, Kind::Enumerable),
+        part: Some(Stock::new(alloc, upper)),
     }
 }

@@ -25,9 +25,10 @@ impl App {
     ///
     /// `text STATUS KIND BODY`, `echo`, `env`, `pieces STATUS P1 P2 ..` and `stream P1 P2 ..` with any
     /// number of pieces, `cookies V1 V2 ..` with one value or more, `bad N1 N2 ..` with 1 to 8 numbers of
-    /// 1 to 8 and 10, `raise TEXT`, and `late LENGTH P1 P2 ..` with any number of pieces: there a last
-    /// text `!` is no piece, and the body raises. STATUS is a decimal number from 100 to 999 and LENGTH one
-    /// up to 1,000,000, with zeros in front or without.
+    /// 1 to 8 and 10, `raise TEXT`, `late LENGTH P1 P2 ..` with any number of pieces, `take NAME`, and
+    /// `part STATUS NAME`. A last text `!` of `late` is no piece, and the body raises. STATUS is a decimal
+    /// number from 100 to 999 and LENGTH one up to 1,000,000, with zeros in front or without. NAME is `echo`
+    /// or `upper`.
     pub fn from_words(
         alloc: Global,
         name: &[u8],
@@ -46,6 +47,8 @@ impl App {
             Some(Named::Bad) => bad_words(alloc, arguments),
             Some(Named::Raise) => raise_words(alloc, arguments),
             Some(Named::Late) => late_words(alloc, arguments),
+            Some(Named::Take) => Ok(take_words(arguments)),
+            Some(Named::Part) => Ok(part_words(arguments)),
         }
     }
 }
@@ -62,6 +65,8 @@ pub(crate) enum Named {
     Bad,
     Raise,
     Late,
+    Take,
+    Part,
 }
 
 // The name that a word is, if any.
@@ -95,6 +100,12 @@ fn name_of(word: &[u8]) -> Option<Named>
     }
     if word == b"late".as_slice() {
         return Some(Named::Late);
+    }
+    if word == b"take".as_slice() {
+        return Some(Named::Take);
+    }
+    if word == b"part".as_slice() {
+        return Some(Named::Part);
     }
     None
 }
@@ -203,6 +214,33 @@ fn late_words(alloc: Global, arguments: &[Bytes]) -> Result<Result<App, WordsFau
     }))
 }
 
+fn take_words(arguments: &[Bytes]) -> Result<App, WordsFault>
+    ensures { result ≡ spec.take_words arguments.now }
+{
+    let [name] = arguments else {
+        return Err(WordsFault::Count);
+    };
+    match upper_of(name.get()) {
+        Some(upper) => Ok(App::Take { upper }),
+        None => Err(WordsFault::Form),
+    }
+}
+
+fn part_words(arguments: &[Bytes]) -> Result<App, WordsFault>
+    ensures { result ≡ spec.part_words arguments.now }
+{
+    let [status, name] = arguments else {
+        return Err(WordsFault::Count);
+    };
+    let Some(status) = status_of(status.get()) else {
+        return Err(WordsFault::Form);
+    };
+    match upper_of(name.get()) {
+        Some(upper) => Ok(App::Part { status, upper }),
+        None => Err(WordsFault::Form),
+    }
+}
+
 // Whether the last text is `!`.
 fn is_marked(texts: &[Bytes]) -> bool
     ensures { result ≡ spec.is_marked texts.now }
@@ -238,4 +276,17 @@ fn rule_of(text: &[u8]) -> Option<u8>
         Some(n) if 1 <= n && n <= 8 || n == 10 => Some(n as u8),
         _ => None,
     }
+}
+
+// Whether the stock hijacker with this name is upper, if one has it.
+fn upper_of(name: &[u8]) -> Option<bool>
+    ensures { result ≡ spec.upper_of name.now }
+{
+    if name == b"echo".as_slice() {
+        return Some(false);
+    }
+    if name == b"upper".as_slice() {
+        return Some(true);
+    }
+    None
 }
