@@ -1,5 +1,5 @@
 -- What stands once a request was run or a refusal is named.
-use Rattle.std.proofs.Common.{◌≡◌, ℕ, suc, ◌+◌, ◌<◌, Bool, List, [], ◌++◌, length, sym, ap, subst, ◌∙◌, arith, None}
+use Rattle.std.proofs.Common.{◌≡◌, ℕ, suc, ◌+◌, ◌<◌, Bool, List, [], ◌++◌, length, refl, sym, ap, subst, ◌∙◌, arith, None}
 use Rattle.std.proofs.lemmas.List.{append-nil}
 use Rattle.rack_types.specs.declared.answer.Answer.{Answer}
 use Rattle.rack_types.specs.declared.fault.Fault.{Fault}
@@ -16,10 +16,9 @@ use Rattle.reply_framing.specs.declared.types.After.{After}
 use Rattle.reply_framing.specs.declared.types.After.TheVariants.{Keep, Close, Hijack}
 use Rattle.reply_framing.specs.declared.types.Ask.{Ask}
 use Rattle.reply_framing.specs.Fault.{fault_reply}
-use Rattle.reply_framing.specs.Hands.{HandsToNobody}
 use Rattle.reply_framing.specs.Owes.{StandsFor}
 use Rattle.reply_framing.specs.Reply.{WholeReply, reply, body_after}
-use Rattle.reply_framing.proofs.CallerLemmas.{owes_at_start, reply_keeps_hold, reply_says}
+use Rattle.reply_framing.proofs.CallerLemmas.{owes_at_start}
 use Rattle.talk_core.specs.declared.ended.Why.TheVariants as why
 use Rattle.talk_core.specs.Stands.{Stands, replies, refuses}
 use Rattle.talk_core.specs.Tail.{Voice}
@@ -30,15 +29,17 @@ use Rattle.conn_core.specs.declared.place.At.TheVariants as at
 use Rattle.conn_core.specs.Holds.{Kept, past, Between, Replying, HoldsAt, StandsAt}
 use Rattle.conn_core.specs.Plain.{EndsPlainly}
 use Rattle.conn_core.specs.Rests.{GoesOn, RestsAt}
-use Rattle.conn_core.specs.Steps.{BeginsAt}
+use Rattle.conn_core.specs.Steps.{HandsOver, BeginsAt, HandsOn}
 use Rattle.conn_core.proofs.FeedLemmas.{silent_lacks}
+use Rattle.conn_core.proofs.HijackLemmas.{with_told, hands_at, told_rest}
+use Rattle.conn_core.proofs.PlaceLemmas.{kept_same}
 
 -- what is owed of a reply, with want of memory
 pub unsaid : {H : Type 0} (V : Voice H) (T : Teller H) (s : Seen) (over : Bool) (given sent : List ℕ) (c : Kept) (k : ℕ) (r : Parts) (behind : List ℕ)
     → Replying V T over given sent c k r behind → EndsPlainly why.NoMemory V T (past s c.calls given sent over)
 unsaid {H} V T s over given sent c k r behind h =
     let n : c.calls ≡ k + 1 = omega (arith, h.count) in
-    (c.ring ++ behind, record { word = replies r; plain = tt; partly = record { k = k; rest = c.held; calls_is = n; stands = h.stands; closes = tt } })
+    (c.ring ++ behind, record { word = replies r; untimed = tt; partly = record { k = k; rest = c.held; calls_is = n; stands = h.stands; closes = tt } })
 
 module _ {B H : Type 0} (V : Voice H) (T : Teller H) (s : Seen) (over : Bool) (given sent : List ℕ) (c : Kept) (k : ℕ) (r : Parts)
     (ask : Ask) (ps : Pairs) (a : Answer Content H) (last : Bool) (is : T k r ≡ reply ask ps a last)
@@ -49,10 +50,16 @@ module _ {B H : Type 0} (V : Voice H) (T : Teller H) (s : Seen) (over : Bool) (g
   begun at.Asked f = absurd f
   begun (at.Refused fault) f = absurd f
   begun (at.Answering framer) f =
-      let stands : StandsFor framer (T k r) = subst (λ (w : WholeReply H). StandsFor framer w) (sym is) f in
+      let stands : StandsFor framer (T k r) = subst (λ (w : WholeReply H). StandsFor framer w) (sym is) f.0 in
       (k, r, [], owes_at_start framer (T k r) stands, subst (λ (x : List ℕ). Replying V T over given sent c k r x) (sym stands.bytes) h)
   begun (at.Writing keeps) f = absurd f
+  begun (at.Handing who) f =
+      let over_to : HandsOver who (T k r) = subst (λ (w : WholeReply H). HandsOver who w) (sym is) f in
+      (k, r, over_to.after, over_to.hijacker, subst (λ (x : List ℕ). Replying V T over given sent c k r x) over_to.bytes h)
   begun at.Refusing f = absurd f
+  begun (at.Taken who) f = absurd f
+  begun (at.Speaking who) f = absurd f
+  begun at.Parting f = absurd f
   begun (at.Over why.Closed) f = absurd f
   begun (at.Over why.PeerEnd) f = absurd f
   begun (at.Over (why.Idle by)) f = absurd f
@@ -95,6 +102,7 @@ module _ {B H : Type 0} (V : Voice H) (T : Teller H) (s : Seen) (peer : List ℕ
         at = begun V T s h.over h.given h.sent (with_run c intake calls) c.calls r ask env.pairs (stack env.pairs env.input.bytes) last is
             (record {
               count = n;
+              live = between.live;
               stands = subst (λ (x : List ℕ). Stands V T h.over h.given h.sent c.calls (replies r) c.held (x ++ (T c.calls r).bytes)) (sym between.ring)
                   (stands_asked V T h.over h.given h.sent now c.held r c.calls between.stands h.at.2);
             }) b f;
@@ -134,31 +142,79 @@ module _ {B H : Type 0} (V : Voice H) (T : Teller H) (s : Seen) (peer : List ℕ
       }
 
 -- where the connection goes on behind the reply to a run there is a next request
-goes_on_behind : {H : Type 0} (ask : Ask) (ps : Pairs) (a : Answer Content H) (calls : ℕ) (intake : Intake) → HandsToNobody a
+goes_on_behind : {H : Type 0} (ask : Ask) (ps : Pairs) (a : Answer Content H) (calls : ℕ) (intake : Intake)
     → StandsWhole intake → calls < 10000 → (after : After) → after ≡ (reply ask ps a (is_last None calls)).after → GoesOn after intake (calls + 1)
-goes_on_behind {H} ask ps a calls intake nobody whole few Keep e =
+goes_on_behind {H} ask ps a calls intake whole few Keep e =
     let below : calls < 9999 = not_last_below None calls few (reply_keeps ask ps a (is_last None calls) (sym e)) in
     let some : 0 < calls + 1 = omega arith in
     let left : calls + 1 < 10000 = omega (arith, below) in
     (whole, (some, left))
-goes_on_behind {H} ask ps a calls intake nobody whole few Close e = tt
-goes_on_behind {H} ask ps a calls intake nobody whole few Hijack e = absurd (reply_keeps_hold ask ps a (is_last None calls) nobody (sym e))
+goes_on_behind {H} ask ps a calls intake whole few Close e = tt
+goes_on_behind {H} ask ps a calls intake whole few Hijack e = let some : 0 < calls + 1 = omega arith in some
 
 more_behind : (n m : ℕ) → 0 < m → 0 < n + m
 more_behind n m some = omega (arith, some)
 
-pub begins_rest : {B H : Type 0} (b : At B H) (ask : Ask) (ps : Pairs) (a : Answer Content H) (last : Bool) (calls : ℕ) (intake : Intake)
-    (held ring : List ℕ) → BeginsAt ask ps a last b → HandsToNobody a → StandsWhole intake → last ≡ is_last None calls → calls < 10000
-    → RestsAt b intake held ring (calls + 1)
-begins_rest {B} {H} at.Reading ask ps a last calls intake held ring f nobody whole is few = absurd f
-begins_rest {B} {H} at.Asked ask ps a last calls intake held ring f nobody whole is few = absurd f
-begins_rest {B} {H} (at.Refused fault) ask ps a last calls intake held ring f nobody whole is few = absurd f
-begins_rest {B} {H} (at.Answering framer) ask ps a last calls intake held ring f nobody whole is few = (
-  more_behind (length ring) (length framer.rest.bytes)
-      (subst (λ (x : List ℕ). 0 < length x) (sym f.bytes) (reply_says ask ps a last (reply_keeps_hold ask ps a last nobody))),
-  goes_on_behind ask ps a calls intake nobody whole few (body_after framer.rest.rule framer.after)
-      (f.after ∙ ap (λ (l : Bool). (reply ask ps a l).after) is),
-)
-begins_rest {B} {H} (at.Writing keeps) ask ps a last calls intake held ring f nobody whole is few = absurd f
-begins_rest {B} {H} at.Refusing ask ps a last calls intake held ring f nobody whole is few = absurd f
-begins_rest {B} {H} (at.Over ended) ask ps a last calls intake held ring f nobody whole is few = tt
+-- nothing is owed where a request stands
+pub asked_ring : {B H : Type 0} (a : At B H) (intake : Intake) (held ring : List ℕ) (calls : ℕ) → a ≡ at.Asked → RestsAt a intake held ring calls → ring ≡ []
+asked_ring {B} {H} a intake held ring calls e h = (subst (λ (b : At B H). RestsAt b intake held ring calls) e h).0
+
+pub asked_few : {B H : Type 0} (a : At B H) (intake : Intake) (held ring : List ℕ) (calls : ℕ) → a ≡ at.Asked → RestsAt a intake held ring calls → calls < 10000
+asked_few {B} {H} a intake held ring calls e h = (subst (λ (b : At B H). RestsAt b intake held ring calls) e h).1.0
+
+-- safety behind a run, where the hijacker of a reply that says nothing was told the bytes held
+pub begins_rest : {B H : Type 0} (V : Voice H) (a b : At B H) (ask : Ask) (ps : Pairs) (answer : Answer Content H) (last : Bool) (calls : ℕ) (intake : Intake)
+    (held left before ring : List ℕ) → BeginsAt ask ps answer last a → HandsOn V a held before b ring left → StandsWhole intake → last ≡ is_last None calls
+    → calls < 10000 → before ≡ [] → RestsAt b intake left ring (calls + 1)
+begins_rest {B} {H} V at.Reading b ask ps answer last calls intake held left before ring f e whole is few none = absurd f
+begins_rest {B} {H} V at.Asked b ask ps answer last calls intake held left before ring f e whole is few none = absurd f
+begins_rest {B} {H} V (at.Refused fault) b ask ps answer last calls intake held left before ring f e whole is few none = absurd f
+begins_rest {B} {H} V (at.Answering framer) b ask ps answer last calls intake held left before ring f e whole is few none =
+    subst (λ (d : At B H). RestsAt d intake left ring (calls + 1)) (sym e.0) (
+      more_behind (length ring) (length framer.rest.bytes) f.1,
+      goes_on_behind ask ps answer calls intake whole few (body_after framer.rest.rule framer.after)
+          (f.0.after ∙ ap (λ (l : Bool). (reply ask ps answer l).after) is),
+    )
+begins_rest {B} {H} V (at.Writing keeps) b ask ps answer last calls intake held left before ring f e whole is few none = absurd f
+begins_rest {B} {H} V (at.Handing who) b ask ps answer last calls intake held left before ring f e whole is few none =
+    told_rest V who held ring left intake (calls + 1) b e
+begins_rest {B} {H} V at.Refusing b ask ps answer last calls intake held left before ring f e whole is few none = absurd f
+begins_rest {B} {H} V (at.Taken who) b ask ps answer last calls intake held left before ring f e whole is few none = absurd f
+begins_rest {B} {H} V (at.Speaking who) b ask ps answer last calls intake held left before ring f e whole is few none = absurd f
+begins_rest {B} {H} V at.Parting b ask ps answer last calls intake held left before ring f e whole is few none = absurd f
+begins_rest {B} {H} V (at.Over ended) b ask ps answer last calls intake held left before ring f e whole is few none =
+    subst (λ (d : At B H). RestsAt d intake left ring (calls + 1)) (sym e.0) tt
+
+-- what stands behind a run, where that hijacker was told them
+pub hands_hold : {B H : Type 0} (V : Voice H) (T : Teller H) (s : Seen) (peer : List ℕ) (c : Kept) (a b : At B H) (ask : Ask) (ps : Pairs)
+    (answer : Answer Content H) (last : Bool) (before ring left : List ℕ) → BeginsAt ask ps answer last a → HandsOn V a c.held before b ring left
+    → before ≡ c.ring → c.ring ≡ [] → StandsAt V T s peer a c → StandsAt V T s peer b (with_told c ring left)
+hands_hold {B} {H} V T s peer c a b ask ps answer last before ring left f e same none h = record {
+  given = h.given;
+  sent = h.sent;
+  over = h.over;
+  shows = h.shows;
+  at = go a f e h.at;
+}
+  where
+    stays : (d : At B H) → b ≡ d → ring ≡ before → left ≡ c.held → HoldsAt d V T s h.over h.given h.sent c
+        → HoldsAt b V T s h.over h.given h.sent (with_told c ring left)
+    stays d is r l x =
+        subst (λ (y : At B H). HoldsAt y V T s h.over h.given h.sent (with_told c ring left)) (sym is)
+        (subst (λ (k : Kept). HoldsAt d V T s h.over h.given h.sent k) (kept_same c (with_told c ring left) refl l (r ∙ same) refl) x)
+
+    go : (d : At B H) → BeginsAt ask ps answer last d → HandsOn V d c.held before b ring left → HoldsAt d V T s h.over h.given h.sent c
+        → HoldsAt b V T s h.over h.given h.sent (with_told c ring left)
+    go at.Reading y z x = absurd y
+    go at.Asked y z x = absurd y
+    go (at.Refused fault) y z x = absurd y
+    go (at.Answering framer) y z x = stays (at.Answering framer) z.0 z.1 z.2 x
+    go (at.Writing keeps) y z x = absurd y
+    go (at.Handing who) y z x =
+        hands_at V T s h.over h.given h.sent c who ring left b z x.0 x.1 x.2 x.3 x.4.count x.4.live
+        (subst (λ (l : List ℕ). Stands V T h.over h.given h.sent x.0 (replies x.1) c.held (l ++ [])) none x.4.stands)
+    go at.Refusing y z x = absurd y
+    go (at.Taken who) y z x = absurd y
+    go (at.Speaking who) y z x = absurd y
+    go at.Parting y z x = absurd y
+    go (at.Over ended) y z x = stays (at.Over ended) z.0 z.1 z.2 x

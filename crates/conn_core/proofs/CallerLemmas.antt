@@ -45,7 +45,11 @@ few_at {B} {H} at.Asked intake held ring calls h e = h.1.0
 few_at {B} {H} (at.Refused f) intake held ring calls h e = h.1
 few_at {B} {H} (at.Answering f) intake held ring calls h e = cc
 few_at {B} {H} (at.Writing keeps) intake held ring calls h e = cc
+few_at {B} {H} (at.Handing x) intake held ring calls h e = cc
 few_at {B} {H} at.Refusing intake held ring calls h e = cc
+few_at {B} {H} (at.Taken x) intake held ring calls h e = cc
+few_at {B} {H} (at.Speaking x) intake held ring calls h e = cc
+few_at {B} {H} at.Parting intake held ring calls h e = cc
 few_at {B} {H} (at.Over w) intake held ring calls h e = cc
 
 -- where a request stands, fewer than 10,000 were run
@@ -53,26 +57,17 @@ pub few_calls : {L B H : Type 0} {g : Ghosts B} (c : Conn L B H g) → (shown c)
 few_calls {L} {B} {H} {g} c e =
     let p = c.inside.value in few_at p.at p.intake p.held p.ring.items p.calls p.rests e
 
-live_at : {B H : Type 0} (a : At B H) → state_at a ≢ state.Hijacked
-live_at {B} {H} at.Reading = λ e. cc
-live_at {B} {H} at.Asked = λ e. cc
-live_at {B} {H} (at.Refused f) = λ e. cc
-live_at {B} {H} (at.Answering f) = λ e. cc
-live_at {B} {H} (at.Writing keeps) = λ e. cc
-live_at {B} {H} at.Refusing = λ e. cc
-live_at {B} {H} (at.Over w) = λ e. cc
-
--- no hijacker takes a connection over
-pub untaken : {L B H : Type 0} {g : Ghosts B} (c : Conn L B H g) → (shown c).state ≢ state.Hijacked
-untaken {L} {B} {H} {g} c = live_at c.inside.value.at
-
 over_at : {B H : Type 0} (a : At B H) (w : Why) → why_at a ≡ Some w → a ≡ at.Over w
 over_at {B} {H} at.Reading w e = cc
 over_at {B} {H} at.Asked w e = cc
 over_at {B} {H} (at.Refused f) w e = cc
 over_at {B} {H} (at.Answering f) w e = cc
 over_at {B} {H} (at.Writing keeps) w e = cc
+over_at {B} {H} (at.Handing h) w e = cc
 over_at {B} {H} at.Refusing w e = cc
+over_at {B} {H} (at.Taken h) w e = cc
+over_at {B} {H} (at.Speaking h) w e = cc
+over_at {B} {H} at.Parting w e = cc
 over_at {B} {H} (at.Over v) w e = cc
 
 -- how a connection ended that has this peer, with what its link tells

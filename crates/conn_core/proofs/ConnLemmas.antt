@@ -16,7 +16,7 @@ use Rattle.talk_core.specs.declared.ended.Life.{Life}
 use Rattle.talk_core.specs.declared.ended.Why.{Why}
 use Rattle.talk_core.specs.declared.ended.Why.TheVariants as why
 use Rattle.talk_core.specs.Ended.{Shows, AreLives, AreEndedLives, IsEnded, StandsForTalk, IsTimed, EndsBy, Past}
-use Rattle.talk_core.specs.Stands.{Word, Stands, silent, replies, refuses, Partly}
+use Rattle.talk_core.specs.Stands.{Word, Stands, silent, replies, refuses, hands_over, Partly}
 use Rattle.talk_core.specs.Tail.{Voice}
 use Rattle.talk_core.specs.Teller.{Stack, Stacks, Teller, tell, last_phase, reply_of, ask_of, is_last}
 use Rattle.talk_core.proofs.CallerLemmas.{stands_new, one_phase}
@@ -24,7 +24,7 @@ use Rattle.conn_core.specs.declared.inside.Inside.{Inside}
 use Rattle.conn_core.specs.declared.place.At.{At}
 use Rattle.conn_core.specs.declared.place.At.TheVariants as at
 use Rattle.conn_core.specs.declared.state.State.TheVariants as state
-use Rattle.conn_core.specs.Holds.{Kept, kept, past, Replying, HoldsAt, StandsAt, HoldsBy}
+use Rattle.conn_core.specs.Holds.{Kept, kept, past, Replying, Handed, HoldsAt, StandsAt, HoldsBy}
 use Rattle.conn_core.specs.Inner.{TellsBy}
 use Rattle.conn_core.specs.Opened.{IsFresh}
 use Rattle.conn_core.specs.Place.{IsSaying, state_at}
@@ -47,6 +47,7 @@ at_start {B} {H} V T s peer c shows fed held ring calls = record {
     record {
       fed = fed;
       ring = ring;
+      live = refl;
       stands = subst (λ (n : ℕ). Stands V T false [] [] n silent ([] ++ c.held) []) (sym calls)
           (subst (λ (x : List ℕ). Stands V T false [] [] 0 silent x []) (sym held) (stands_new V T false));
     },
@@ -154,6 +155,17 @@ replying_part {H} V T over given sent c k r behind h =
       timed = tt;
     }
 
+handed_part : {H : Type 0} (V : Voice H) (T : Teller H) (over : Bool) (given sent : List ℕ) (c : Kept) → Handed V T over given sent c
+    → Part V T over given sent c.calls
+handed_part {H} V T over given sent c h =
+    let n : c.calls ≡ h.k + 1 = omega (arith, h.count) in
+    record {
+      word = hands_over h.request h.first;
+      lacks = c.ring;
+      partly = record { k = h.k; rest = h.rest; calls_is = n; stands = h.stands; closes = tt };
+      timed = tt;
+    }
+
 pub live_part : {B H : Type 0} (a : At B H) (V : Voice H) (T : Teller H) (s : Seen) (over : Bool) (given sent : List ℕ) (c : Kept)
     → state_at a ≢ state.Over → HoldsAt a V T s over given sent c → Part V T over given sent c.calls
 live_part {B} {H} at.Reading V T s over given sent c live h = silent_part V T over given sent (h.0 ++ c.held) c.calls h.3.stands
@@ -161,6 +173,10 @@ live_part {B} {H} at.Asked V T s over given sent c live h = silent_part V T over
 live_part {B} {H} (at.Refused f) V T s over given sent c live h = silent_part V T over given sent (h.0 ++ c.held) c.calls h.3.stands
 live_part {B} {H} (at.Answering f) V T s over given sent c live h = replying_part V T over given sent c h.0 h.1 f.rest.bytes h.4
 live_part {B} {H} (at.Writing keeps) V T s over given sent c live h = replying_part V T over given sent c h.0 h.1 [] h.3
+live_part {B} {H} (at.Handing who) V T s over given sent c live h = replying_part V T over given sent c h.0 h.1 [] h.4
+live_part {B} {H} (at.Taken who) V T s over given sent c live h = handed_part V T over given sent c h.handed
+live_part {B} {H} (at.Speaking who) V T s over given sent c live h = handed_part V T over given sent c h.handed
+live_part {B} {H} at.Parting V T s over given sent c live h = handed_part V T over given sent c h.handed
 live_part {B} {H} at.Refusing V T s over given sent c live h =
     let n : c.calls ≡ c.calls + 0 = omega arith in
     record {
@@ -193,7 +209,7 @@ live_stands {B} {H} {g} V S s p live lives h =
 some_bytes : (xs : List ℕ) → 0 < length xs → xs ≢ []
 some_bytes xs some e = omega (arith, some, ap length e)
 
--- bytes are owed exactly where a reply is under way
+-- bytes are owed exactly where something is said
 pub owed_says : {B H : Type 0} (a : At B H) (intake : Intake) (held ring : List ℕ) (calls : ℕ) → RestsAt a intake held ring calls → IsSaying a
     → owed_at a ring ≢ []
 owed_says {B} {H} at.Reading intake held ring calls h is = absurd is
@@ -203,7 +219,11 @@ owed_says {B} {H} (at.Answering f) intake held ring calls h is =
     let some : 0 < length (ring ++ f.rest.bytes) = omega (arith, h.0, length-append ring f.rest.bytes) in
     some_bytes (ring ++ f.rest.bytes) some
 owed_says {B} {H} (at.Writing keeps) intake held ring calls h is = some_bytes ring h.0
+owed_says {B} {H} (at.Handing who) intake held ring calls h is = some_bytes ring h.0
 owed_says {B} {H} at.Refusing intake held ring calls h is = some_bytes ring h
+owed_says {B} {H} (at.Taken who) intake held ring calls h is = absurd is
+owed_says {B} {H} (at.Speaking who) intake held ring calls h is = some_bytes ring h.1
+owed_says {B} {H} at.Parting intake held ring calls h is = some_bytes ring h
 owed_says {B} {H} (at.Over ended) intake held ring calls h is = absurd is
 
 pub says_owed : {B H : Type 0} (a : At B H) (intake : Intake) (held ring : List ℕ) (calls : ℕ) → RestsAt a intake held ring calls
@@ -213,7 +233,11 @@ says_owed {B} {H} at.Asked intake held ring calls h some = absurd (some h.0)
 says_owed {B} {H} (at.Refused f) intake held ring calls h some = absurd (some h.0)
 says_owed {B} {H} (at.Answering f) intake held ring calls h some = tt
 says_owed {B} {H} (at.Writing keeps) intake held ring calls h some = tt
+says_owed {B} {H} (at.Handing who) intake held ring calls h some = tt
 says_owed {B} {H} at.Refusing intake held ring calls h some = tt
+says_owed {B} {H} (at.Taken who) intake held ring calls h some = absurd (some h.1)
+says_owed {B} {H} (at.Speaking who) intake held ring calls h some = tt
+says_owed {B} {H} at.Parting intake held ring calls h some = tt
 says_owed {B} {H} (at.Over ended) intake held ring calls h some = absurd (some refl)
 
 -- the replies by stacks of which one answers each request of the connection
@@ -227,7 +251,7 @@ told_by {H} S lives local peer stack are same k r =
 pub turn_holds : {B H : Type 0} {g : Ghosts B} (V : Voice H) (S : Stacks H) (old mid new : Inside B H g) (s s' : Seen) (stack : Stack H) → mid ≡ old
     → new.peer ≡ mid.peer → new.local ≡ mid.local → new.lives.items ≡ mid.lives.items → AreLives old.lives.items
     → ((ps : Pairs) (input : List ℕ) → S (last_phase old.lives.items) ps input ≡ stack ps input)
-    → ((W : Voice H) (T : Teller H) → TellsBy T stack mid.local mid.peer → HoldsBy W T s mid → HoldsBy W T s' new)
+    → ((T : Teller H) → TellsBy T stack mid.local mid.peer → HoldsBy V T s mid → HoldsBy V T s' new)
     → HoldsBy V (tell S old.lives.items old.local old.peer None) s old
     → AreLives new.lives.items × HoldsBy V (tell S new.lives.items new.local new.peer None) s' new
 turn_holds {B} {H} {g} V S old mid new s s' stack e peer local lives are same step h =
@@ -236,7 +260,7 @@ turn_holds {B} {H} {g} V S old mid new s s' stack e peer local lives are same st
     subst (λ (x : Inside B H g). (ps : Pairs) (input : List ℕ) → S (last_phase x.lives.items) ps input ≡ stack ps input) (sym e) same in
     let T : Teller H = tell S mid.lives.items mid.local mid.peer None in
     let then : HoldsBy V (tell S mid.lives.items mid.local mid.peer None) s' new =
-    step V T (told_by S mid.lives.items mid.local mid.peer stack are_mid same_mid)
+    step T (told_by S mid.lives.items mid.local mid.peer stack are_mid same_mid)
     (subst (λ (x : Inside B H g). HoldsBy V (tell S x.lives.items x.local x.peer None) s x) (sym e) h) in (
       subst AreLives (sym lives) are_mid,
       subst (λ (x : List Life). HoldsBy V (tell S x new.local new.peer None) s' new) (sym lives)

@@ -1,5 +1,5 @@
 -- What stands behind the bytes held, once they were fed.
-use Rattle.std.proofs.Common.{◌≡◌, ℕ, ◌+◌, ◌<◌, Bool, List, [], ◌++◌, take, drop, refl, sym, ap, subst, ◌∙◌, append_assoc, arith}
+use Rattle.std.proofs.Common.{◌≡◌, ℕ, ◌+◌, ◌<◌, Bool, false, List, [], ◌++◌, take, drop, refl, sym, ap, subst, ◌∙◌, append_assoc, arith}
 use Rattle.std.proofs.lemmas.List.{append-nil, take-append-drop}
 use Rattle.rack_outside.specs.Link.{Seen}
 use Rattle.message_framing.specs.declared.intake.Intake.{Intake}
@@ -24,10 +24,10 @@ pub silent_lacks : {H : Type 0} (V : Voice H) (T : Teller H) (s : Seen) (over : 
     → Stands V T over given sent calls silent rest [] → EndsPlainly why.NoMemory V T (past s calls given sent over)
 silent_lacks {H} V T s over given sent rest calls h =
     let n : calls ≡ calls + 0 = omega arith in
-    ([], record { word = silent; plain = tt; partly = record { k = calls; rest = rest; calls_is = n; stands = h; closes = tt } })
+    ([], record { word = silent; untimed = tt; partly = record { k = calls; rest = rest; calls_is = n; stands = h; closes = tt } })
 
 module _ {B H : Type 0} (V : Voice H) (T : Teller H) (s : Seen) (over : Bool) (given sent : List ℕ) (old new : Intake) (held left : List ℕ)
-    (calls : ℕ) (now : List ℕ) where
+    (calls : ℕ) (now : List ℕ) (live : over ≡ false) where
   pub feeds_hold : (a : At B H) → FeedsHeld old held new left a → Fed old now → Stands V T over given sent calls silent (now ++ held) []
       → HoldsAt a V T s over given sent (fed_kept new left calls)
   feeds_hold at.Reading f fed h =
@@ -38,6 +38,7 @@ module _ {B H : Type 0} (V : Voice H) (T : Teller H) (s : Seen) (over : Bool) (g
         record {
           fed = f.0.holds now fed;
           ring = refl;
+          live = live;
           stands = subst (λ (x : List ℕ). Stands V T over given sent calls silent x []) rest h;
         },
       )
@@ -52,6 +53,7 @@ module _ {B H : Type 0} (V : Voice H) (T : Teller H) (s : Seen) (over : Bool) (g
         record {
           fed = f.1.holds now fed;
           ring = refl;
+          live = live;
           stands = subst (λ (x : List ℕ). Stands V T over given sent calls silent x []) parts h;
         },
       )
@@ -63,12 +65,17 @@ module _ {B H : Type 0} (V : Voice H) (T : Teller H) (s : Seen) (over : Bool) (g
         record {
           fed = f.0.holds now fed;
           ring = refl;
+          live = live;
           stands = subst (λ (x : List ℕ). Stands V T over given sent calls silent x []) rest h;
         },
       )
   feeds_hold (at.Answering framer) f fed h = absurd f
   feeds_hold (at.Writing keeps) f fed h = absurd f
+  feeds_hold (at.Handing who) f fed h = absurd f
   feeds_hold at.Refusing f fed h = absurd f
+  feeds_hold (at.Taken who) f fed h = absurd f
+  feeds_hold (at.Speaking who) f fed h = absurd f
+  feeds_hold at.Parting f fed h = absurd f
   feeds_hold (at.Over why.Closed) f fed h = absurd f
   feeds_hold (at.Over why.PeerEnd) f fed h = absurd f
   feeds_hold (at.Over (why.Idle by)) f fed h = absurd f
@@ -88,5 +95,9 @@ feeds_rest {B} {H} at.Asked old new held left calls f few = (refl, (few, f.1.who
 feeds_rest {B} {H} (at.Refused fault) old new held left calls f few = (refl, few)
 feeds_rest {B} {H} (at.Answering framer) old new held left calls f few = absurd f
 feeds_rest {B} {H} (at.Writing keeps) old new held left calls f few = absurd f
+feeds_rest {B} {H} (at.Handing who) old new held left calls f few = absurd f
 feeds_rest {B} {H} at.Refusing old new held left calls f few = absurd f
+feeds_rest {B} {H} (at.Taken who) old new held left calls f few = absurd f
+feeds_rest {B} {H} (at.Speaking who) old new held left calls f few = absurd f
+feeds_rest {B} {H} at.Parting old new held left calls f few = absurd f
 feeds_rest {B} {H} (at.Over ended) old new held left calls f few = tt

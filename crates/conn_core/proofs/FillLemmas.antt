@@ -1,12 +1,11 @@
 -- What stands once the ring was filled.
-use Rattle.std.proofs.Common.{◌≡◌, ◌≢◌, ◌↔◌, ℕ, ◌+◌, ◌<◌, Bool, true, false, IsTrue, List, [], ◌++◌, length, refl, sym, ap, subst, ◌∙◌, arith, length-append, Option, Ok}
+use Rattle.std.proofs.Common.{◌≡◌, ◌≢◌, ℕ, ◌+◌, ◌<◌, Bool, List, [], ◌++◌, length, refl, sym, ap, subst, ◌∙◌, arith, length-append, Option, Ok}
 use Rattle.std.proofs.lemmas.List.{append-nil}
 use Rattle.circular_buffer.specs.Buffer.{Buffer}
 use Rattle.rack_types.specs.declared.rules.BodyRule.{BodyRule}
 use Rattle.rack_outside.specs.Link.{Seen}
 use Rattle.message_framing.specs.declared.intake.Intake.{Intake}
 use Rattle.reply_framing.specs.declared.types.After.{After}
-use Rattle.reply_framing.specs.declared.types.After.TheVariants.{Keep, Close, Hijack}
 use Rattle.reply_framing.specs.declared.types.Filled.{Filled}
 use Rattle.reply_framing.specs.declared.types.Filled.TheVariants.{Full, Done, Broke}
 use Rattle.reply_framing.specs.Coming.{Coming, Rest}
@@ -21,19 +20,10 @@ use Rattle.conn_core.specs.declared.place.At.{At}
 use Rattle.conn_core.specs.declared.place.At.TheVariants as at
 use Rattle.conn_core.specs.Holds.{Kept, HoldsAt, StandsAt}
 use Rattle.conn_core.specs.Place.{IsSaying}
-use Rattle.conn_core.specs.Rests.{GoesOn, RestsAt, after_of}
-use Rattle.conn_core.specs.Steps.{Written, FillsFrom, FillsTo}
+use Rattle.conn_core.specs.Rests.{GoesOn, RestsAt}
+use Rattle.conn_core.specs.Steps.{Written, WrittenTo, FillsFrom, FillsTo}
 use Rattle.conn_core.proofs.BeginLemmas.{unsaid}
 use Rattle.conn_core.proofs.SayLemmas.{with_ring}
-
--- whether the connection goes on, as it is told
-keeps_as : (new : After) (keeps : Bool) → (IsTrue keeps ↔ (new ≡ Keep)) → new ≢ Hijack → after_of keeps ≡ new
-keeps_as Keep true e untaken = refl
-keeps_as Keep false e untaken = absurd (cc (e.1 refl))
-keeps_as Close true e untaken = absurd (cc (e.0 refl))
-keeps_as Close false e untaken = refl
-keeps_as Hijack true e untaken = absurd (untaken refl)
-keeps_as Hijack false e untaken = absurd (untaken refl)
 
 -- behind the last fill `after` is what the reply tells, over what was to come
 after_by_rule : {H : Type 0} (f new : Coming H) (result : Filled) (x y : Buffer ℕ) → result ≢ Full → Fills f.rest (Ok result) new.rest x y
@@ -56,6 +46,11 @@ written_ring {H} f x y keeps w =
     sym (ap (λ z. y.items ++ z) (none_left w.new f.rest w.result x y w.unfilled w.fills) ∙ append-nil y.items)
     ∙ fill_moves f.rest w.new.rest (Ok w.result) x y w.fills
 
+pub handed_ring : {H : Type 0} (f : Coming H) (x y : Buffer ℕ) (who : H) → WrittenTo f x who y → y.items ≡ x.items ++ f.rest.bytes
+handed_ring {H} f x y who w =
+    sym (ap (λ z. y.items ++ z) (none_left w.new f.rest w.result x y w.unfilled w.fills) ∙ append-nil y.items)
+    ∙ fill_moves f.rest w.new.rest (Ok w.result) x y w.fills
+
 module _ {B H : Type 0} (V : Voice H) (T : Teller H) (s : Seen) (over : Bool) (given sent : List ℕ) (c : Kept) (f : Coming H) (x y : Buffer ℕ)
     (ring_is : c.ring ≡ x.items) where
   -- a fill of the framer
@@ -73,6 +68,7 @@ module _ {B H : Type 0} (V : Voice H) (T : Teller H) (s : Seen) (over : Bool) (g
         owes_fill f new (T h.0 h.1) h.2 (Ok Full) x y h.3 e.0 e.1 e.2,
         record {
           count = h.4.count;
+          live = h.4.live;
           stands = subst (λ (z : List ℕ). Stands V T over given sent h.0 (replies h.1) c.held z) moved h.4.stands;
         },
       )
@@ -81,14 +77,32 @@ module _ {B H : Type 0} (V : Voice H) (T : Teller H) (s : Seen) (over : Bool) (g
       ap (λ z. z ++ f.rest.bytes) ring_is ∙ sym (written_ring f x y keeps e) ∙ sym (append-nil y.items) in (
         h.0,
         h.1,
-        keeps_as e.new.after keeps e.keeps_is e.untaken ∙ after_by_rule f e.new e.result x y e.unfilled e.fills e.after_is
+        e.keeps_is ∙ after_by_rule f e.new e.result x y e.unfilled e.fills e.after_is
             ∙ ap (λ (o : Option BodyRule). body_after o f.after) h.3.rule ∙ h.3.after,
         record {
           count = h.4.count;
+          live = h.4.live;
+          stands = subst (λ (z : List ℕ). Stands V T over given sent h.0 (replies h.1) c.held z) moved h.4.stands;
+        },
+      )
+  fills_from (at.Handing who) e h =
+      let moved : c.ring ++ f.rest.bytes ≡ y.items ++ [] =
+      ap (λ z. z ++ f.rest.bytes) ring_is ∙ sym (handed_ring f x y who e) ∙ sym (append-nil y.items) in (
+        h.0,
+        h.1,
+        sym (sym e.taken ∙ after_by_rule f e.new e.result x y e.unfilled e.fills e.after_is
+            ∙ ap (λ (o : Option BodyRule). body_after o f.after) h.3.rule ∙ h.3.after),
+        sym h.3.hijacker ∙ sym e.hijacker_is ∙ e.who,
+        record {
+          count = h.4.count;
+          live = h.4.live;
           stands = subst (λ (z : List ℕ). Stands V T over given sent h.0 (replies h.1) c.held z) moved h.4.stands;
         },
       )
   fills_from at.Refusing e h = absurd e
+  fills_from (at.Taken who) e h = absurd e
+  fills_from (at.Speaking who) e h = absurd e
+  fills_from at.Parting e h = absurd e
   fills_from (at.Over why.Closed) e h = absurd e
   fills_from (at.Over why.PeerEnd) e h = absurd e
   fills_from (at.Over (why.Idle by)) e h = absurd e
@@ -116,6 +130,13 @@ fills_at {B} {H} V T s over given sent c x y r (at.Refused fault) b e is h = abs
 fills_at {B} {H} V T s over given sent c x y r (at.Answering f) b e is h = fills_from V T s over given sent c f x y r b e h
 fills_at {B} {H} V T s over given sent c x y r (at.Writing keeps) b e is h =
     same_ring V T s over given sent c x y r (at.Writing keeps) b e.0 e.1 h
+fills_at {B} {H} V T s over given sent c x y r (at.Handing who) b e is h =
+    same_ring V T s over given sent c x y r (at.Handing who) b e.0 e.1 h
+fills_at {B} {H} V T s over given sent c x y r (at.Taken who) b e is h = absurd is
+fills_at {B} {H} V T s over given sent c x y r (at.Speaking who) b e is h =
+    same_ring V T s over given sent c x y r (at.Speaking who) b e.0 e.1 h
+fills_at {B} {H} V T s over given sent c x y r at.Parting b e is h =
+    same_ring V T s over given sent c x y r at.Parting b e.0 e.1 h
 fills_at {B} {H} V T s over given sent c x y r at.Refusing b e is h =
     same_ring V T s over given sent c x y r at.Refusing b e.0 e.1 h
 fills_at {B} {H} V T s over given sent c x y r (at.Over ended) b e is h = absurd is
@@ -153,13 +174,30 @@ fills_rest {B} {H} (at.Answering f) (at.Answering new) x y intake held calls e i
 fills_rest {B} {H} (at.Answering f) (at.Writing keeps) x y intake held calls e is h = (
   some_of x.items f.rest.bytes y.items (written_ring f x y keeps e) h.0,
   subst (λ (z : After). GoesOn z intake calls)
-      (sym (keeps_as e.new.after keeps e.keeps_is e.untaken ∙ after_by_rule f e.new e.result x y e.unfilled e.fills e.after_is)) h.1,
+      (sym (e.keeps_is ∙ after_by_rule f e.new e.result x y e.unfilled e.fills e.after_is)) h.1,
+)
+fills_rest {B} {H} (at.Answering f) (at.Handing who) x y intake held calls e is h = (
+  some_of x.items f.rest.bytes y.items (handed_ring f x y who e) h.0,
+  subst (λ (z : After). GoesOn z intake calls) (sym (sym e.taken ∙ after_by_rule f e.new e.result x y e.unfilled e.fills e.after_is)) h.1,
 )
 fills_rest {B} {H} (at.Answering f) at.Refusing x y intake held calls e is h = absurd e
+fills_rest {B} {H} (at.Answering f) (at.Taken who) x y intake held calls e is h = absurd e
+fills_rest {B} {H} (at.Answering f) (at.Speaking who) x y intake held calls e is h = absurd e
+fills_rest {B} {H} (at.Answering f) at.Parting x y intake held calls e is h = absurd e
 fills_rest {B} {H} (at.Answering f) (at.Over ended) x y intake held calls e is h = tt
 fills_rest {B} {H} (at.Writing keeps) b x y intake held calls e is h =
     subst (λ (d : At B H). RestsAt d intake held y.items calls) (sym e.0)
     (subst (λ (z : Buffer ℕ). RestsAt {B = B} {H = H} (at.Writing keeps) intake held z.items calls) (sym e.1) h)
+fills_rest {B} {H} (at.Handing who) b x y intake held calls e is h =
+    subst (λ (d : At B H). RestsAt d intake held y.items calls) (sym e.0)
+    (subst (λ (z : Buffer ℕ). RestsAt {B = B} {H = H} (at.Handing who) intake held z.items calls) (sym e.1) h)
+fills_rest {B} {H} (at.Taken who) b x y intake held calls e is h = absurd is
+fills_rest {B} {H} (at.Speaking who) b x y intake held calls e is h =
+    subst (λ (d : At B H). RestsAt d intake held y.items calls) (sym e.0)
+    (subst (λ (z : Buffer ℕ). RestsAt {B = B} {H = H} (at.Speaking who) intake held z.items calls) (sym e.1) h)
+fills_rest {B} {H} at.Parting b x y intake held calls e is h =
+    subst (λ (d : At B H). RestsAt d intake held y.items calls) (sym e.0)
+    (subst (λ (z : Buffer ℕ). RestsAt {B = B} {H = H} at.Parting intake held z.items calls) (sym e.1) h)
 fills_rest {B} {H} at.Refusing b x y intake held calls e is h =
     subst (λ (d : At B H). RestsAt d intake held y.items calls) (sym e.0)
     (subst (λ (z : Buffer ℕ). RestsAt {B = B} {H = H} at.Refusing intake held z.items calls) (sym e.1) h)

@@ -1,10 +1,16 @@
 -- What a connection shows once the ring was filled.
-use Rattle.std.proofs.Common.{◌≡◌, ◌↔◌, ℕ, Bool, true, false, IsTrue, List, refl, sym, ap, subst, ◌∙◌, None, Ok, Err}
+use Rattle.std.proofs.Common.{◌≡◌, ◌≢◌, ◌↔◌, ℕ, Bool, true, false, IsTrue, List, [], ◌++◌, refl, sym, ap, subst, ◌∙◌, None, Ok, Err}
+use Rattle.std.proofs.lemmas.List.{append-nil}
 use Rattle.circular_buffer.specs.Buffer.{Buffer}
 use Rattle.rack_types.specs.declared.peer.Local.{Local}
 use Rattle.message_framing.specs.declared.intake.Intake.{Intake}
-use Rattle.reply_framing.specs.declared.types.Filled.TheVariants.{Full}
-use Rattle.reply_framing.proofs.CallerLemmas.{fill_moves, fill_room}
+use Rattle.reply_framing.specs.declared.types.After.{After}
+use Rattle.reply_framing.specs.declared.types.Filled.{Filled}
+use Rattle.reply_framing.specs.declared.types.Filled.TheVariants.{Full, Done, Broke}
+use Rattle.reply_framing.specs.Coming.{Rest}
+use Rattle.reply_framing.specs.Fills.{Fills}
+use Rattle.reply_framing.specs.Reply.{body_after}
+use Rattle.reply_framing.proofs.CallerLemmas.{fill_moves, fill_room, fill_after, written_after}
 use Rattle.talk_core.specs.declared.ended.Life.{Life}
 use Rattle.talk_core.specs.declared.ended.Why.TheVariants as why
 use Rattle.conn_core.specs.declared.place.At.{At}
@@ -13,13 +19,12 @@ use Rattle.conn_core.specs.Inner.{FillsShown, IsFilledAt}
 use Rattle.conn_core.specs.Moves.{ring_room}
 use Rattle.conn_core.specs.Place.{IsSaying, state_at}
 use Rattle.conn_core.specs.Rests.{RestsAt}
-use Rattle.conn_core.specs.Shown.{Shown, owed_at, replied_at, why_at}
+use Rattle.conn_core.specs.Shown.{Shown, owed_at, replied_at, why_at, fault_at, after_at, sure_at}
 use Rattle.conn_core.specs.Steps.{FillsTo}
-use Rattle.conn_core.proofs.FillLemmas.{written_ring}
 
 -- what is shown at a place
-abbrev pub shown_at : {B H : Type 0} → At B H → List ℕ → List ℕ → Local → List Life → ℕ → ℕ → Shown
-shown_at {B} {H} a ring peer local lives calls taken = record {
+abbrev pub shown_at : {B H : Type 0} → At B H → List ℕ → List ℕ → List ℕ → Local → List Life → ℕ → ℕ → Shown
+shown_at {B} {H} a ring held peer local lives calls taken = record {
   peer = peer;
   local = local;
   lives = lives;
@@ -29,7 +34,21 @@ shown_at {B} {H} a ring peer local lives calls taken = record {
   owed = owed_at a ring;
   state = state_at a;
   why = why_at a;
+  fault = fault_at a;
+  held = held;
+  after = after_at a;
+  sure = sure_at a;
 }
+
+none_left : (o n : Rest) (result : Filled) (x y : Buffer ℕ) → result ≢ Full → Fills o (Ok result) n x y → n.bytes ≡ []
+none_left o n Full x y unfilled fills = absurd (unfilled refl)
+none_left o n Done x y unfilled fills = fills.answer.0
+none_left o n (Broke rule) x y unfilled fills = fills.answer.0
+
+-- all that was to come is in the ring
+pub all_filled : (o n : Rest) (result : Filled) (x y : Buffer ℕ) → result ≢ Full → Fills o (Ok result) n x y → y.items ≡ x.items ++ o.bytes
+all_filled o n result x y unfilled fills =
+    sym (ap (λ (z : List ℕ). y.items ++ z) (none_left o n result x y unfilled fills) ∙ append-nil y.items) ∙ fill_moves o n (Ok result) x y fills
 
 -- the room stays
 pub fills_room : {B H : Type 0} (a b : At B H) (x y : Buffer ℕ) → FillsTo a x b y → IsSaying a → y.capacity ≡ x.capacity
@@ -41,7 +60,11 @@ fills_room {B} {H} (at.Answering f) at.Asked x y e is = absurd e
 fills_room {B} {H} (at.Answering f) (at.Refused fault) x y e is = absurd e
 fills_room {B} {H} (at.Answering f) (at.Answering new) x y e is = fill_room f.rest new.rest (Ok Full) x y e.0
 fills_room {B} {H} (at.Answering f) (at.Writing keeps) x y e is = fill_room f.rest e.new.rest (Ok e.result) x y e.fills
+fills_room {B} {H} (at.Answering f) (at.Handing h) x y e is = fill_room f.rest e.new.rest (Ok e.result) x y e.fills
 fills_room {B} {H} (at.Answering f) at.Refusing x y e is = absurd e
+fills_room {B} {H} (at.Answering f) (at.Taken h) x y e is = absurd e
+fills_room {B} {H} (at.Answering f) (at.Speaking h) x y e is = absurd e
+fills_room {B} {H} (at.Answering f) at.Parting x y e is = absurd e
 fills_room {B} {H} (at.Answering f) (at.Over why.Closed) x y e is = absurd e
 fills_room {B} {H} (at.Answering f) (at.Over why.PeerEnd) x y e is = absurd e
 fills_room {B} {H} (at.Answering f) (at.Over (why.Idle by)) x y e is = absurd e
@@ -54,7 +77,11 @@ fills_room {B} {H} (at.Answering f) (at.Over (why.Halted level)) x y e is = absu
 fills_room {B} {H} (at.Answering f) (at.Over why.NoMemory) x y e is = fill_room f.rest e.0.rest (Err e.1) x y e.2
 fills_room {B} {H} (at.Answering f) (at.Over why.Hijacked) x y e is = absurd e
 fills_room {B} {H} (at.Writing keeps) b x y e is = ap (λ (z : Buffer ℕ). z.capacity) e.1
+fills_room {B} {H} (at.Handing h) b x y e is = ap (λ (z : Buffer ℕ). z.capacity) e.1
 fills_room {B} {H} at.Refusing b x y e is = ap (λ (z : Buffer ℕ). z.capacity) e.1
+fills_room {B} {H} (at.Taken h) b x y e is = absurd is
+fills_room {B} {H} (at.Speaking h) b x y e is = ap (λ (z : Buffer ℕ). z.capacity) e.1
+fills_room {B} {H} at.Parting b x y e is = ap (λ (z : Buffer ℕ). z.capacity) e.1
 fills_room {B} {H} (at.Over ended) b x y e is = absurd is
 
 not_false : {P : Type 0} → (IsTrue false ↔ P) → P → ⊥
@@ -63,47 +90,70 @@ not_false {P} e p = cc (e.1 p)
 not_true : {P : Type 0} → (IsTrue true ↔ P) → P
 not_true {P} e = e.0 refl
 
-module _ {B H : Type 0} (peer : List ℕ) (local : Local) (lives : List Life) (calls taken : ℕ) where
-  same_place : (goes : Bool) (a b : At B H) (x y : Buffer ℕ) → b ≡ a → y ≡ x → IsSaying a → state_at a ≡ state_at {B = B} {H = H} at.Refusing
-      → why_at a ≡ None → (IsTrue goes ↔ IsSaying b)
-      → FillsShown goes (shown_at a x.items peer local lives calls taken) (shown_at b y.items peer local lives calls taken)
-  same_place true a b x y e same is st none goes = (
-    record { peer = refl; local = refl; lives = refl; taken = refl },
-    refl,
-    ap (λ (d : At B H). replied_at d calls) e,
-    ap (λ (d : At B H). owed_at d y.items) e ∙ ap (λ (z : Buffer ℕ). owed_at a z.items) same,
-    ap (λ (d : At B H). state_at d) e ∙ st,
-    ap (λ (d : At B H). why_at d) e ∙ none,
-  )
-  same_place false a b x y e same is st none goes = absurd (not_false goes (subst (λ (d : At B H). IsSaying d) (sym e) is))
+module _ {B H : Type 0} (held peer : List ℕ) (local : Local) (lives : List Life) (calls taken : ℕ) where
+  same_place : (goes : Bool) (a b : At B H) (x y : Buffer ℕ) → b ≡ a → y ≡ x → IsSaying a → why_at a ≡ None → (IsTrue goes ↔ IsSaying b)
+      → FillsShown goes (shown_at a x.items held peer local lives calls taken) (shown_at b y.items held peer local lives calls taken)
+  same_place true a b x y e same is none goes = record {
+    same = record { peer = refl; local = refl; lives = refl; taken = refl };
+    calls = refl;
+    replied = ap (λ (d : At B H). replied_at d calls) e;
+    owed = ap (λ (d : At B H). owed_at d y.items) e ∙ ap (λ (z : Buffer ℕ). owed_at a z.items) same;
+    state = ap (λ (d : At B H). state_at d) e;
+    why = ap (λ (d : At B H). why_at d) e ∙ none;
+    held = refl;
+    after = ap (λ (d : At B H). after_at d) e;
+    sure = λ sure. ap (λ (d : At B H). sure_at d) e ∙ sure;
+  }
+  same_place false a b x y e same is none goes = absurd (not_false goes (subst (λ (d : At B H). IsSaying d) (sym e) is))
 
   pub fills_shown : (goes : Bool) (a b : At B H) (x y : Buffer ℕ) → FillsTo a x b y → IsSaying a → (IsTrue goes ↔ IsSaying b)
-      → FillsShown goes (shown_at a x.items peer local lives calls taken) (shown_at b y.items peer local lives calls taken)
+      → FillsShown goes (shown_at a x.items held peer local lives calls taken) (shown_at b y.items held peer local lives calls taken)
   fills_shown goes at.Reading b x y e is by = absurd is
   fills_shown goes at.Asked b x y e is by = absurd is
   fills_shown goes (at.Refused f) b x y e is by = absurd is
   fills_shown goes (at.Answering f) at.Reading x y e is by = absurd e
   fills_shown goes (at.Answering f) at.Asked x y e is by = absurd e
   fills_shown goes (at.Answering f) (at.Refused fault) x y e is by = absurd e
-  fills_shown true (at.Answering f) (at.Answering new) x y e is by = (
-    record { peer = refl; local = refl; lives = refl; taken = refl },
-    refl,
-    refl,
-    fill_moves f.rest new.rest (Ok Full) x y e.0,
-    refl,
-    refl,
-  )
+  fills_shown true (at.Answering f) (at.Answering new) x y e is by = record {
+    same = record { peer = refl; local = refl; lives = refl; taken = refl };
+    calls = refl;
+    replied = refl;
+    owed = fill_moves f.rest new.rest (Ok Full) x y e.0;
+    state = refl;
+    why = refl;
+    held = refl;
+    after = ap (λ (z : After). body_after new.rest.rule z) e.1 ∙ fill_after f.rest new.rest (Ok Full) x y f.after e.0;
+    sure = λ sure. e.0.sure ∙ sure;
+  }
   fills_shown false (at.Answering f) (at.Answering new) x y e is by = absurd (not_false by tt)
-  fills_shown true (at.Answering f) (at.Writing keeps) x y e is by = (
-    record { peer = refl; local = refl; lives = refl; taken = refl },
-    refl,
-    refl,
-    written_ring f x y keeps e,
-    refl,
-    refl,
-  )
+  fills_shown true (at.Answering f) (at.Writing keeps) x y e is by = record {
+    same = record { peer = refl; local = refl; lives = refl; taken = refl };
+    calls = refl;
+    replied = refl;
+    owed = all_filled f.rest e.new.rest e.result x y e.unfilled e.fills;
+    state = refl;
+    why = refl;
+    held = refl;
+    after = e.keeps_is ∙ e.after_is ∙ written_after f.rest e.new.rest e.result x y f.after e.unfilled e.fills;
+    sure = λ sure. refl;
+  }
   fills_shown false (at.Answering f) (at.Writing keeps) x y e is by = absurd (not_false by tt)
+  fills_shown true (at.Answering f) (at.Handing h) x y e is by = record {
+    same = record { peer = refl; local = refl; lives = refl; taken = refl };
+    calls = refl;
+    replied = refl;
+    owed = all_filled f.rest e.new.rest e.result x y e.unfilled e.fills;
+    state = refl;
+    why = refl;
+    held = refl;
+    after = sym e.taken ∙ e.after_is ∙ written_after f.rest e.new.rest e.result x y f.after e.unfilled e.fills;
+    sure = λ sure. refl;
+  }
+  fills_shown false (at.Answering f) (at.Handing h) x y e is by = absurd (not_false by tt)
   fills_shown goes (at.Answering f) at.Refusing x y e is by = absurd e
+  fills_shown goes (at.Answering f) (at.Taken h) x y e is by = absurd e
+  fills_shown goes (at.Answering f) (at.Speaking h) x y e is by = absurd e
+  fills_shown goes (at.Answering f) at.Parting x y e is by = absurd e
   fills_shown goes (at.Answering f) (at.Over why.Closed) x y e is by = absurd e
   fills_shown goes (at.Answering f) (at.Over why.PeerEnd) x y e is by = absurd e
   fills_shown goes (at.Answering f) (at.Over (why.Idle reason)) x y e is by = absurd e
@@ -114,11 +164,18 @@ module _ {B H : Type 0} (peer : List ℕ) (local : Local) (lives : List Life) (c
   fills_shown goes (at.Answering f) (at.Over why.WriteFailed) x y e is by = absurd e
   fills_shown goes (at.Answering f) (at.Over (why.Halted level)) x y e is by = absurd e
   fills_shown true (at.Answering f) (at.Over why.NoMemory) x y e is by = absurd (not_true by)
-  fills_shown false (at.Answering f) (at.Over why.NoMemory) x y e is by =
-      (record { peer = refl; local = refl; lives = refl; taken = refl }, refl, refl, refl)
+  fills_shown false (at.Answering f) (at.Over why.NoMemory) x y e is by = (
+    refl,
+    sym e.2.sure ∙ e.2.answer,
+    record { same = record { peer = refl; local = refl; lives = refl; taken = refl }; calls = refl; state = refl; why = refl },
+  )
   fills_shown goes (at.Answering f) (at.Over why.Hijacked) x y e is by = absurd e
-  fills_shown goes (at.Writing keeps) b x y e is by = same_place goes (at.Writing keeps) b x y e.0 e.1 is refl refl by
-  fills_shown goes at.Refusing b x y e is by = same_place goes at.Refusing b x y e.0 e.1 is refl refl by
+  fills_shown goes (at.Writing keeps) b x y e is by = same_place goes (at.Writing keeps) b x y e.0 e.1 is refl by
+  fills_shown goes (at.Handing h) b x y e is by = same_place goes (at.Handing h) b x y e.0 e.1 is refl by
+  fills_shown goes at.Refusing b x y e is by = same_place goes at.Refusing b x y e.0 e.1 is refl by
+  fills_shown goes (at.Taken h) b x y e is by = absurd is
+  fills_shown goes (at.Speaking h) b x y e is by = same_place goes (at.Speaking h) b x y e.0 e.1 is refl by
+  fills_shown goes at.Parting b x y e is by = same_place goes at.Parting b x y e.0 e.1 is refl by
   fills_shown goes (at.Over ended) b x y e is by = absurd is
 
 -- what is said next is in the ring
@@ -133,8 +190,16 @@ fills_some {B} {H} (at.Refused f) (at.Answering new) x y intake held calls e is 
 fills_some {B} {H} (at.Answering f) (at.Answering new) x y intake held calls e is room rests then =
     (e.0.answer.1 ∙ room, e.0.answer.0)
 fills_some {B} {H} (at.Writing keeps) (at.Answering new) x y intake held calls e is room rests then = absurd (cc e.0)
+fills_some {B} {H} (at.Handing h) (at.Answering new) x y intake held calls e is room rests then = absurd (cc e.0)
 fills_some {B} {H} at.Refusing (at.Answering new) x y intake held calls e is room rests then = absurd (cc e.0)
+fills_some {B} {H} (at.Taken h) (at.Answering new) x y intake held calls e is room rests then = absurd is
+fills_some {B} {H} (at.Speaking h) (at.Answering new) x y intake held calls e is room rests then = absurd (cc e.0)
+fills_some {B} {H} at.Parting (at.Answering new) x y intake held calls e is room rests then = absurd (cc e.0)
 fills_some {B} {H} (at.Over ended) (at.Answering new) x y intake held calls e is room rests then = absurd is
 fills_some {B} {H} a (at.Writing keeps) x y intake held calls e is room rests then = rests.0
+fills_some {B} {H} a (at.Handing h) x y intake held calls e is room rests then = rests.0
 fills_some {B} {H} a at.Refusing x y intake held calls e is room rests then = rests
+fills_some {B} {H} a (at.Taken h) x y intake held calls e is room rests then = absurd then
+fills_some {B} {H} a (at.Speaking h) x y intake held calls e is room rests then = rests.1
+fills_some {B} {H} a at.Parting x y intake held calls e is room rests then = rests
 fills_some {B} {H} a (at.Over ended) x y intake held calls e is room rests then = absurd then

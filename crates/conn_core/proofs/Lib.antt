@@ -3,6 +3,7 @@ pub mod FeedLemmas
 pub mod HeldLemmas
 pub mod PrepareLemmas
 pub mod ReadLemmas
+pub mod HijackLemmas
 pub mod BeginLemmas
 pub mod SayLemmas
 pub mod FillLemmas
@@ -12,8 +13,10 @@ pub mod ShownLemmas
 pub mod MovedLemmas
 pub mod MoveLemmas
 pub mod MovingLemmas
+pub mod ToldLemmas
 pub mod FedLemmas
 pub mod TurnLemmas
+pub mod FlushLemmas
 pub mod SaidLemmas
 pub mod SaysLemmas
 pub mod WorkLemmas

@@ -1,22 +1,29 @@
 -- What each read and each write of a connection is, as a move, and lists of moves.
-use Rattle.std.proofs.Common.{◌≡◌, ◌≢◌, ℕ, ◌+◌, ◌-◌, ◌<◌, ◌≤◌, Bool, true, false, List, [], ◌∷◌, ◌++◌, length, take, drop, refl, sym, ap, subst, ◌∙◌, arith, length-append, None, inl, inr}
+use Rattle.std.proofs.Common.{◌≡◌, ◌≢◌, ◌↔◌, ℕ, ◌+◌, ◌-◌, ◌<◌, ◌≤◌, Bool, true, false, IsTrue, List, [], ◌∷◌, ◌++◌, length, take, drop, refl, sym, ap, subst, ◌∙◌, arith, length-append, None, ◌⊎◌, inl, inr}
 use Rattle.std.proofs.Math.Seq.{take-append_seam}
 use Rattle.std.proofs.lemmas.List.{take_all, drop-append-le}
 use Rattle.rack_types.specs.declared.body.Body.{Ghosts}
 use Rattle.rack_types.specs.declared.fault.Fault.{Fault}
+use Rattle.rack_types.specs.declared.peer.Local.{Local}
+use Rattle.rack_outside.specs.declared.link.LinkWrite.TheVariants as write
 use Rattle.message_framing.specs.declared.intake.Intake.{Intake}
-use Rattle.talk_core.specs.declared.ended.Why.{Why}
+use Rattle.message_framing.specs.Intake.{Fed}
+use Rattle.talk_core.specs.declared.ended.Life.{Life}
 use Rattle.talk_core.specs.declared.ended.Why.TheVariants as why
+use Rattle.talk_core.specs.Tail.{Voice}
 use Rattle.conn_core.specs.declared.inside.Inside.{Inside}
 use Rattle.conn_core.specs.declared.place.At.{At}
 use Rattle.conn_core.specs.declared.place.At.TheVariants as at
 use Rattle.conn_core.specs.declared.state.State.TheVariants as state
+use Rattle.conn_core.specs.Calls.{MayFeed}
 use Rattle.conn_core.specs.Inner.{IsFilledAt}
-use Rattle.conn_core.specs.Moves.{ring_room, FedTo, TookTo, OwesRightly, Move, Moment, Makes, Goes}
-use Rattle.conn_core.specs.Place.{state_at}
+use Rattle.conn_core.specs.Moves.{ring_room, FedTo, ToldTo, KeptTo, BehindWrite, OwesAs, OwesRightly, Move, Moment, Makes, Goes, IsOwing}
+use Rattle.conn_core.specs.Place.{IsSaying, IsHearing, MayRead, state_at}
 use Rattle.conn_core.specs.Rests.{RestsAt}
-use Rattle.conn_core.specs.Shown.{shows, replied_at, owed_at, why_at}
-use Rattle.conn_core.specs.Steps.{FeedsHeld, CompletesTo}
+use Rattle.conn_core.specs.Shown.{shows, replied_at, owed_at, why_at, fault_at, after_at, sure_at}
+use Rattle.conn_core.specs.Steps.{FeedsHeld, Tells, CompletesTo}
+use Rattle.conn_core.proofs.FilledLemmas.{shown_at}
+use Rattle.conn_core.proofs.SaidLemmas.{filled_ring, filled_owes}
 
 -- moves, and more moves
 pub goes_then : (xs ys : List Move) (m k n : Moment) → Goes xs m k → Goes ys k n → Goes (xs ++ ys) m n
@@ -27,21 +34,136 @@ goes_then (x ∷ xs) ys m k n h i = (h.0, h.1, h.2, goes_then xs ys h.0 k n h.3 
 pub goes_on : (xs : List Move) (x : Move) (m k n : Moment) → Goes xs m k → Makes x k n → OwesRightly n.shown → Goes (xs ++ x ∷ []) m n
 goes_on xs x m k n h makes owes = goes_then xs (x ∷ []) m k n h (n, makes, owes, refl)
 
--- bytes are owed exactly where a reply is under way
-rests_owe : {B H : Type 0} (a : At B H) (intake : Intake) (held ring : List ℕ) (calls : ℕ) → RestsAt a intake held ring calls
-    → (state_at a ≡ state.Answering → 0 < length (owed_at a ring)) × (state_at a ≢ state.Answering → owed_at a ring ≡ [])
-rests_owe {B} {H} at.Reading intake held ring calls h = (λ e. cc, λ not. h.1.0)
-rests_owe {B} {H} at.Asked intake held ring calls h = (λ e. cc, λ not. h.0)
-rests_owe {B} {H} (at.Refused f) intake held ring calls h = (λ e. cc, λ not. h.0)
-rests_owe {B} {H} (at.Answering f) intake held ring calls h =
-    (λ e. omega (arith, h.0, length-append ring f.rest.bytes), λ not. absurd (not refl))
-rests_owe {B} {H} (at.Writing keeps) intake held ring calls h = (λ e. h.0, λ not. absurd (not refl))
-rests_owe {B} {H} at.Refusing intake held ring calls h = (λ e. h, λ not. absurd (not refl))
-rests_owe {B} {H} (at.Over w) intake held ring calls h = (λ e. cc, λ not. refl)
+pub some_not : (xs : List ℕ) → 0 < length xs → xs ≢ []
+some_not xs some none = absurd (omega (arith, some, ap (λ (x : List ℕ). length x) none))
+
+-- what is owed and held where a connection rests
+rests_owe : {B H : Type 0} (a : At B H) (intake : Intake) (held ring : List ℕ) (calls : ℕ) (peer : List ℕ) (local : Local) (lives : List Life)
+    (taken : ℕ) → RestsAt a intake held ring calls → OwesAs (state_at a) (shown_at a ring held peer local lives calls taken)
+rests_owe {B} {H} at.Reading intake held ring calls peer local lives taken r = (r.1.0, r.0)
+rests_owe {B} {H} at.Asked intake held ring calls peer local lives taken r = r.0
+rests_owe {B} {H} (at.Refused f) intake held ring calls peer local lives taken r = r.0
+rests_owe {B} {H} (at.Answering f) intake held ring calls peer local lives taken r =
+    some_not (ring ++ f.rest.bytes) (omega (arith, r.0, length-append ring f.rest.bytes))
+rests_owe {B} {H} (at.Writing keeps) intake held ring calls peer local lives taken r = some_not ring r.0
+rests_owe {B} {H} (at.Handing h) intake held ring calls peer local lives taken r = some_not ring r.0
+rests_owe {B} {H} at.Refusing intake held ring calls peer local lives taken r = some_not ring r
+rests_owe {B} {H} (at.Taken h) intake held ring calls peer local lives taken r = λ keeps. r.0
+rests_owe {B} {H} (at.Speaking h) intake held ring calls peer local lives taken r = λ keeps. r.0
+rests_owe {B} {H} at.Parting intake held ring calls peer local lives taken r = λ keeps. cc
+rests_owe {B} {H} (at.Over w) intake held ring calls peer local lives taken r = refl
 
 pub owes_rightly : {B H : Type 0} {g : Ghosts B} (p : Inside B H g) → OwesRightly (shows p)
-owes_rightly {B} {H} {g} p =
-    let r = rests_owe p.at p.intake p.held p.ring.items p.calls p.rests in record { some = r.0; none = r.1 }
+owes_rightly {B} {H} {g} p = rests_owe p.at p.intake p.held p.ring.items p.calls p.peer p.local p.lives.items p.taken p.rests
+
+-- bytes are owed at a place where some are said, and only there
+saying_at : {B H : Type 0} (a : At B H) (intake : Intake) (held ring : List ℕ) (calls : ℕ) → RestsAt a intake held ring calls
+    → IsSaying a → (state_at a ≡ state.Answering) ⊎ ((state_at a ≡ state.Hijacked) × (owed_at a ring ≢ []))
+saying_at {B} {H} at.Reading intake held ring calls r is = absurd is
+saying_at {B} {H} at.Asked intake held ring calls r is = absurd is
+saying_at {B} {H} (at.Refused f) intake held ring calls r is = absurd is
+saying_at {B} {H} (at.Answering f) intake held ring calls r is = inl refl
+saying_at {B} {H} (at.Writing keeps) intake held ring calls r is = inl refl
+saying_at {B} {H} (at.Handing h) intake held ring calls r is = inl refl
+saying_at {B} {H} at.Refusing intake held ring calls r is = inl refl
+saying_at {B} {H} (at.Taken h) intake held ring calls r is = absurd is
+saying_at {B} {H} (at.Speaking h) intake held ring calls r is = inr (refl, some_not ring r.1)
+saying_at {B} {H} at.Parting intake held ring calls r is = inr (refl, some_not ring r)
+saying_at {B} {H} (at.Over w) intake held ring calls r is = absurd is
+
+owing_at : {B H : Type 0} (a : At B H) (intake : Intake) (held ring : List ℕ) (calls : ℕ) → RestsAt a intake held ring calls
+    → (state_at a ≡ state.Answering) ⊎ ((state_at a ≡ state.Hijacked) × (owed_at a ring ≢ [])) → IsSaying a
+owing_at {B} {H} at.Reading intake held ring calls r e = elim e [ inl x ↦ cc | inr x ↦ cc ]
+owing_at {B} {H} at.Asked intake held ring calls r e = elim e [ inl x ↦ cc | inr x ↦ cc ]
+owing_at {B} {H} (at.Refused f) intake held ring calls r e = elim e [ inl x ↦ cc | inr x ↦ cc ]
+owing_at {B} {H} (at.Answering f) intake held ring calls r e = tt
+owing_at {B} {H} (at.Writing keeps) intake held ring calls r e = tt
+owing_at {B} {H} (at.Handing h) intake held ring calls r e = tt
+owing_at {B} {H} at.Refusing intake held ring calls r e = tt
+owing_at {B} {H} (at.Taken h) intake held ring calls r e = elim e [ inl x ↦ cc | inr x ↦ absurd (x.1 r.1) ]
+owing_at {B} {H} (at.Speaking h) intake held ring calls r e = tt
+owing_at {B} {H} at.Parting intake held ring calls r e = tt
+owing_at {B} {H} (at.Over w) intake held ring calls r e = elim e [ inl x ↦ cc | inr x ↦ cc ]
+
+pub saying_owing : {B H : Type 0} {g : Ghosts B} (p : Inside B H g) → IsSaying p.at → IsOwing (shows p)
+saying_owing {B} {H} {g} p is = saying_at p.at p.intake p.held p.ring.items p.calls p.rests is
+
+pub owing_saying : {B H : Type 0} {g : Ghosts B} (p : Inside B H g) → IsOwing (shows p) → IsSaying p.at
+owing_saying {B} {H} {g} p is = owing_at p.at p.intake p.held p.ring.items p.calls p.rests is
+
+pub unsaying : {B H : Type 0} {g : Ghosts B} (p : Inside B H g) (b : Bool) → (IsTrue b ↔ IsSaying p.at) → b ≡ false → ¬ (IsOwing (shows p))
+unsaying {B} {H} {g} p b is not owing = let t : b ≡ true = is.1 (owing_saying p owing) in cc
+
+-- a hijacker has the connection, and nothing is owed
+hearing_at : {B H : Type 0} (a : At B H) (intake : Intake) (held ring : List ℕ) (calls : ℕ) → RestsAt a intake held ring calls
+    → IsHearing a → (state_at a ≡ state.Hijacked) × (owed_at a ring ≡ [])
+hearing_at {B} {H} at.Reading intake held ring calls r is = absurd is
+hearing_at {B} {H} at.Asked intake held ring calls r is = absurd is
+hearing_at {B} {H} (at.Refused f) intake held ring calls r is = absurd is
+hearing_at {B} {H} (at.Answering f) intake held ring calls r is = absurd is
+hearing_at {B} {H} (at.Writing keeps) intake held ring calls r is = absurd is
+hearing_at {B} {H} (at.Handing h) intake held ring calls r is = absurd is
+hearing_at {B} {H} at.Refusing intake held ring calls r is = absurd is
+hearing_at {B} {H} (at.Taken h) intake held ring calls r is = (refl, r.1)
+hearing_at {B} {H} (at.Speaking h) intake held ring calls r is = absurd is
+hearing_at {B} {H} at.Parting intake held ring calls r is = absurd is
+hearing_at {B} {H} (at.Over w) intake held ring calls r is = absurd is
+
+silent_at : {B H : Type 0} (a : At B H) → state_at a ≡ state.Hijacked → ¬ (IsSaying a) → IsHearing a
+silent_at {B} {H} at.Reading e not = cc
+silent_at {B} {H} at.Asked e not = cc
+silent_at {B} {H} (at.Refused f) e not = cc
+silent_at {B} {H} (at.Answering f) e not = cc
+silent_at {B} {H} (at.Writing keeps) e not = cc
+silent_at {B} {H} (at.Handing h) e not = cc
+silent_at {B} {H} at.Refusing e not = cc
+silent_at {B} {H} (at.Taken h) e not = tt
+silent_at {B} {H} (at.Speaking h) e not = absurd (not tt)
+silent_at {B} {H} at.Parting e not = absurd (not tt)
+silent_at {B} {H} (at.Over w) e not = cc
+
+pub hearing_owes : {B H : Type 0} {g : Ghosts B} (p : Inside B H g) → IsHearing p.at
+    → ((shows p).state ≡ state.Hijacked) × ((shows p).owed ≡ [])
+hearing_owes {B} {H} {g} p is = hearing_at p.at p.intake p.held p.ring.items p.calls p.rests is
+
+pub silent_hears : {B H : Type 0} (a : At B H) (b : Bool) → state_at a ≡ state.Hijacked → (IsTrue b ↔ IsSaying a) → b ≡ false → IsHearing a
+silent_hears {B} {H} a b held is not = silent_at a held (λ says. let t : b ≡ true = is.1 says in cc)
+
+pub reading_place : {B H : Type 0} (a : At B H) → state_at a ≡ state.Reading → a ≡ at.Reading
+reading_place {B} {H} at.Reading e = refl
+reading_place {B} {H} at.Asked e = cc
+reading_place {B} {H} (at.Refused f) e = cc
+reading_place {B} {H} (at.Answering f) e = cc
+reading_place {B} {H} (at.Writing keeps) e = cc
+reading_place {B} {H} (at.Handing h) e = cc
+reading_place {B} {H} at.Refusing e = cc
+reading_place {B} {H} (at.Taken h) e = cc
+reading_place {B} {H} (at.Speaking h) e = cc
+reading_place {B} {H} at.Parting e = cc
+reading_place {B} {H} (at.Over w) e = cc
+
+-- a read may be made
+may_read_at : {B H : Type 0} (a : At B H) (intake : Intake) (held ring : List ℕ) (calls : ℕ) → RestsAt a intake held ring calls
+    → (state_at a ≡ state.Reading) ⊎ ((state_at a ≡ state.Hijacked) × (owed_at a ring ≡ [])) → MayRead a
+may_read_at {B} {H} at.Reading intake held ring calls r e = inl refl
+may_read_at {B} {H} at.Asked intake held ring calls r e = elim e [ inl x ↦ cc | inr x ↦ cc ]
+may_read_at {B} {H} (at.Refused f) intake held ring calls r e = elim e [ inl x ↦ cc | inr x ↦ cc ]
+may_read_at {B} {H} (at.Answering f) intake held ring calls r e = elim e [ inl x ↦ cc | inr x ↦ cc ]
+may_read_at {B} {H} (at.Writing keeps) intake held ring calls r e = elim e [ inl x ↦ cc | inr x ↦ cc ]
+may_read_at {B} {H} (at.Handing h) intake held ring calls r e = elim e [ inl x ↦ cc | inr x ↦ cc ]
+may_read_at {B} {H} at.Refusing intake held ring calls r e = elim e [ inl x ↦ cc | inr x ↦ cc ]
+may_read_at {B} {H} (at.Taken h) intake held ring calls r e = inr tt
+may_read_at {B} {H} (at.Speaking h) intake held ring calls r e = elim e [ inl x ↦ cc | inr x ↦ absurd (some_not ring r.1 x.1) ]
+may_read_at {B} {H} at.Parting intake held ring calls r e = elim e [ inl x ↦ cc | inr x ↦ absurd (some_not ring r x.1) ]
+may_read_at {B} {H} (at.Over w) intake held ring calls r e = elim e [ inl x ↦ cc | inr x ↦ cc ]
+
+pub may_read : {B H : Type 0} {g : Ghosts B} (p : Inside B H g) → MayFeed (shows p) → MayRead p.at
+may_read {B} {H} {g} p may = may_read_at p.at p.intake p.held p.ring.items p.calls p.rests may
+
+-- the connection is read, or a hijacker has it
+pub may_state : {B H : Type 0} (a : At B H) → MayRead a → state_at a ≢ state.Reading → IsHearing a
+may_state {B} {H} a may not =
+    elim may [ inl reading ↦ absurd (not (ap (λ (d : At B H). state_at d) reading)) | inr hears ↦ hears ]
 
 -- what stands behind bytes that were fed
 pub fed_to : {B H : Type 0} (a : At B H) (old new : Intake) (held left : List ℕ) → FeedsHeld old held new left a → FedTo (state_at a) (why_at a)
@@ -50,7 +172,11 @@ fed_to {B} {H} at.Asked old new held left f = refl
 fed_to {B} {H} (at.Refused fault) old new held left f = refl
 fed_to {B} {H} (at.Answering framer) old new held left f = absurd f
 fed_to {B} {H} (at.Writing keeps) old new held left f = absurd f
+fed_to {B} {H} (at.Handing h) old new held left f = absurd f
 fed_to {B} {H} at.Refusing old new held left f = absurd f
+fed_to {B} {H} (at.Taken h) old new held left f = absurd f
+fed_to {B} {H} (at.Speaking h) old new held left f = absurd f
+fed_to {B} {H} at.Parting old new held left f = absurd f
 fed_to {B} {H} (at.Over why.Closed) old new held left f = absurd f
 fed_to {B} {H} (at.Over why.PeerEnd) old new held left f = absurd f
 fed_to {B} {H} (at.Over (why.Idle by)) old new held left f = absurd f
@@ -68,19 +194,17 @@ reading_ring : {B H : Type 0} (a : At B H) (intake : Intake) (held ring : List �
     → ring ≡ []
 reading_ring {B} {H} a intake held ring calls e h = (subst (λ (b : At B H). RestsAt b intake held ring calls) e h).1.0
 
--- so too behind a read by which the connection ended
-pub unowed : {B H : Type 0} (a : At B H) (intake : Intake) (held ring : List ℕ) (calls : ℕ) (w : Why) → a ≡ at.Reading → RestsAt a intake held ring calls
-    → owed_at {B = B} {H = H} (at.Over w) ring ≡ owed_at a ring
-unowed {B} {H} a intake held ring calls w e h =
-    sym (ap (λ (b : At B H). owed_at b ring) e ∙ reading_ring a intake held ring calls e h)
-
 owed_fed : {B H : Type 0} (a : At B H) (ring : List ℕ) → FedTo (state_at a) (why_at a) → ring ≡ [] → owed_at a ring ≡ ring
 owed_fed {B} {H} at.Reading ring f e = refl
 owed_fed {B} {H} at.Asked ring f e = refl
 owed_fed {B} {H} (at.Refused fault) ring f e = refl
 owed_fed {B} {H} (at.Answering framer) ring f e = absurd f
 owed_fed {B} {H} (at.Writing keeps) ring f e = absurd f
+owed_fed {B} {H} (at.Handing h) ring f e = absurd f
 owed_fed {B} {H} at.Refusing ring f e = absurd f
+owed_fed {B} {H} (at.Taken h) ring f e = absurd f
+owed_fed {B} {H} (at.Speaking h) ring f e = absurd f
+owed_fed {B} {H} at.Parting ring f e = absurd f
 owed_fed {B} {H} (at.Over w) ring f e = sym e
 
 -- and behind bytes that were fed
@@ -97,7 +221,11 @@ fills_front {B} {H} (at.Refused f) ring is few = absurd is
 fills_front {B} {H} (at.Answering f) ring is few =
     sym (ap (λ (n : ℕ). take n (ring ++ f.rest.bytes)) (sym is.0) ∙ take-append_seam ring f.rest.bytes)
 fills_front {B} {H} (at.Writing keeps) ring is few = sym (take_all ring_room ring few)
+fills_front {B} {H} (at.Handing h) ring is few = sym (take_all ring_room ring few)
 fills_front {B} {H} at.Refusing ring is few = sym (take_all ring_room ring few)
+fills_front {B} {H} (at.Taken h) ring is few = absurd is
+fills_front {B} {H} (at.Speaking h) ring is few = sym (take_all ring_room ring few)
+fills_front {B} {H} at.Parting ring is few = sym (take_all ring_room ring few)
 fills_front {B} {H} (at.Over w) ring is few = absurd is
 
 -- what is owed behind a write that took n bytes of the ring
@@ -109,67 +237,194 @@ owed_left {B} {H} (at.Refused f) before after n is off few = absurd is
 owed_left {B} {H} (at.Answering f) before after n is off few =
     ap (λ (x : List ℕ). x ++ f.rest.bytes) off ∙ sym (drop-append-le n before f.rest.bytes few)
 owed_left {B} {H} (at.Writing keeps) before after n is off few = off
+owed_left {B} {H} (at.Handing h) before after n is off few = off
 owed_left {B} {H} at.Refusing before after n is off few = off
+owed_left {B} {H} (at.Taken h) before after n is off few = absurd is
+owed_left {B} {H} (at.Speaking h) before after n is off few = off
+owed_left {B} {H} at.Parting before after n is off few = off
 owed_left {B} {H} (at.Over w) before after n is off few = absurd is
 
--- the place where bytes are owed, as it is shown
-pub filled_shown : {B H : Type 0} (a : At B H) (ring : List ℕ) → IsFilledAt a ring → (state_at a ≡ state.Answering) × (why_at a ≡ None)
-filled_shown {B} {H} at.Reading ring is = absurd is
-filled_shown {B} {H} at.Asked ring is = absurd is
-filled_shown {B} {H} (at.Refused f) ring is = absurd is
-filled_shown {B} {H} (at.Answering f) ring is = (refl, refl)
-filled_shown {B} {H} (at.Writing keeps) ring is = (refl, refl)
-filled_shown {B} {H} at.Refusing ring is = (refl, refl)
-filled_shown {B} {H} (at.Over w) ring is = absurd is
-
--- the link took some of the ring, and the reply goes on
-pub took_on : {B H : Type 0} (a : At B H) (ring : List ℕ) (calls : ℕ) → IsFilledAt a ring
-    → TookTo (state_at a) (why_at a) (replied_at a calls) (replied_at a calls)
-took_on {B} {H} at.Reading ring calls is = absurd is
-took_on {B} {H} at.Asked ring calls is = absurd is
-took_on {B} {H} (at.Refused f) ring calls is = absurd is
-took_on {B} {H} (at.Answering f) ring calls is = (refl, refl)
-took_on {B} {H} (at.Writing keeps) ring calls is = (refl, refl)
-took_on {B} {H} at.Refusing ring calls is = (refl, refl)
-took_on {B} {H} (at.Over w) ring calls is = absurd is
-
--- what is shown behind all of a ring that was taken
-pub record TookAll {B H : Type 0} (a b : At B H) (before : List ℕ) (calls n : ℕ) : Type 0 where
-  pub owed : owed_at b [] ≡ drop n (owed_at a before)
-  pub to : TookTo (state_at b) (why_at b) (replied_at a calls) (replied_at b calls)
+-- no why is named at a place where bytes are owed
+pub filled_why : {B H : Type 0} (a : At B H) (ring : List ℕ) → IsFilledAt a ring → why_at a ≡ None
+filled_why {B} {H} at.Reading ring is = absurd is
+filled_why {B} {H} at.Asked ring is = absurd is
+filled_why {B} {H} (at.Refused f) ring is = absurd is
+filled_why {B} {H} (at.Answering f) ring is = refl
+filled_why {B} {H} (at.Writing keeps) ring is = refl
+filled_why {B} {H} (at.Handing h) ring is = refl
+filled_why {B} {H} at.Refusing ring is = refl
+filled_why {B} {H} (at.Taken h) ring is = absurd is
+filled_why {B} {H} (at.Speaking h) ring is = refl
+filled_why {B} {H} at.Parting ring is = refl
+filled_why {B} {H} (at.Over w) ring is = absurd is
 
 one_more : (calls : ℕ) → 0 < calls → calls ≡ calls - 1 + 1
 one_more calls some = omega (arith, some)
 
-took_fed : {B H : Type 0} (keeps : Bool) (b : At B H) (before : List ℕ) (calls n : ℕ) (fresh new : Intake) (held left : List ℕ)
-    → FeedsHeld fresh held new left b → 0 < calls → [] ≡ drop n before → TookAll (at.Writing keeps) b before calls n
-took_fed {B} {H} keeps at.Reading before calls n fresh new held left f some off = record { owed = off; to = (refl, one_more calls some) }
-took_fed {B} {H} keeps at.Asked before calls n fresh new held left f some off = record { owed = off; to = (refl, one_more calls some) }
-took_fed {B} {H} keeps (at.Refused fault) before calls n fresh new held left f some off = record { owed = off; to = (refl, one_more calls some) }
-took_fed {B} {H} keeps (at.Answering framer) before calls n fresh new held left f some off = absurd f
-took_fed {B} {H} keeps (at.Writing k) before calls n fresh new held left f some off = absurd f
-took_fed {B} {H} keeps at.Refusing before calls n fresh new held left f some off = absurd f
-took_fed {B} {H} keeps (at.Over w) before calls n fresh new held left f some off =
-    record { owed = off; to = inr (fed_to {B = B} {H = H} (at.Over w) fresh new held left f) }
+-- what stands behind what a hijacker was told
+pub told_to : {B H : Type 0} (V : Voice H) (h : H) (a : At B H) (piece ring left : List ℕ) → Tells V h piece a ring left → ToldTo (state_at a) (why_at a)
+told_to {B} {H} V h at.Reading piece ring left t = absurd t
+told_to {B} {H} V h at.Asked piece ring left t = absurd t
+told_to {B} {H} V h (at.Refused fault) piece ring left t = absurd t
+told_to {B} {H} V h (at.Answering framer) piece ring left t = absurd t
+told_to {B} {H} V h (at.Writing keeps) piece ring left t = absurd t
+told_to {B} {H} V h (at.Handing now) piece ring left t = absurd t
+told_to {B} {H} V h at.Refusing piece ring left t = absurd t
+told_to {B} {H} V h (at.Taken now) piece ring left t = refl
+told_to {B} {H} V h (at.Speaking now) piece ring left t = refl
+told_to {B} {H} V h at.Parting piece ring left t = refl
+told_to {B} {H} V h (at.Over why.Closed) piece ring left t = absurd t
+told_to {B} {H} V h (at.Over why.PeerEnd) piece ring left t = absurd t
+told_to {B} {H} V h (at.Over (why.Idle by)) piece ring left t = absurd t
+told_to {B} {H} V h (at.Over (why.TimedOut since moment)) piece ring left t = absurd t
+told_to {B} {H} V h (at.Over (why.Stalled since moment)) piece ring left t = absurd t
+told_to {B} {H} V h (at.Over (why.Unread level)) piece ring left t = absurd t
+told_to {B} {H} V h (at.Over why.ReadFailed) piece ring left t = absurd t
+told_to {B} {H} V h (at.Over why.WriteFailed) piece ring left t = absurd t
+told_to {B} {H} V h (at.Over (why.Halted level)) piece ring left t = absurd t
+told_to {B} {H} V h (at.Over why.NoMemory) piece ring left t = inr refl
+told_to {B} {H} V h (at.Over why.Hijacked) piece ring left t = inl refl
 
-pub took_all : {B H : Type 0} (a b : At B H) (before : List ℕ) (calls n : ℕ) (old new : Intake) (held left : List ℕ)
-    → CompletesTo a old held b new left → IsFilledAt a before → RestsAt a old held before calls → [] ≡ drop n before → n ≤ length before
-    → TookAll a b before calls n
-took_all {B} {H} at.Reading b before calls n old new held left e is rests off few = absurd is
-took_all {B} {H} at.Asked b before calls n old new held left e is rests off few = absurd is
-took_all {B} {H} (at.Refused f) b before calls n old new held left e is rests off few = absurd is
-took_all {B} {H} (at.Answering f) b before calls n old new held left e is rests off few =
-    subst (λ (d : At B H). TookAll (at.Answering f) d before calls n) (sym e.0)
-    (record { owed = owed_left {B = B} {H = H} (at.Answering f) before [] n is off few; to = (refl, refl) })
-took_all {B} {H} (at.Writing true) b before calls n old new held left e is rests off few =
-    took_fed true b before calls n e.0 new held left e.2 rests.1.1.0 off
-took_all {B} {H} (at.Writing false) b before calls n old new held left e is rests off few =
-    subst (λ (d : At B H). TookAll (at.Writing false) d before calls n) (sym e.0) (record { owed = off; to = inl refl })
-took_all {B} {H} at.Refusing b before calls n old new held left e is rests off few =
-    subst (λ (d : At B H). TookAll at.Refusing d before calls n) (sym e.0) (record { owed = off; to = inl refl })
-took_all {B} {H} (at.Over w) b before calls n old new held left e is rests off few = absurd is
+pub told_count : {B H : Type 0} (V : Voice H) (h : H) (a : At B H) (piece ring left : List ℕ) (calls : ℕ) → Tells V h piece a ring left
+    → replied_at a calls ≡ calls
+told_count {B} {H} V h at.Reading piece ring left calls t = absurd t
+told_count {B} {H} V h at.Asked piece ring left calls t = absurd t
+told_count {B} {H} V h (at.Refused fault) piece ring left calls t = absurd t
+told_count {B} {H} V h (at.Answering framer) piece ring left calls t = absurd t
+told_count {B} {H} V h (at.Writing keeps) piece ring left calls t = absurd t
+told_count {B} {H} V h (at.Handing now) piece ring left calls t = absurd t
+told_count {B} {H} V h at.Refusing piece ring left calls t = absurd t
+told_count {B} {H} V h (at.Taken now) piece ring left calls t = refl
+told_count {B} {H} V h (at.Speaking now) piece ring left calls t = refl
+told_count {B} {H} V h at.Parting piece ring left calls t = refl
+told_count {B} {H} V h (at.Over why.Closed) piece ring left calls t = absurd t
+told_count {B} {H} V h (at.Over why.PeerEnd) piece ring left calls t = absurd t
+told_count {B} {H} V h (at.Over (why.Idle by)) piece ring left calls t = absurd t
+told_count {B} {H} V h (at.Over (why.TimedOut since moment)) piece ring left calls t = absurd t
+told_count {B} {H} V h (at.Over (why.Stalled since moment)) piece ring left calls t = absurd t
+told_count {B} {H} V h (at.Over (why.Unread level)) piece ring left calls t = absurd t
+told_count {B} {H} V h (at.Over why.ReadFailed) piece ring left calls t = absurd t
+told_count {B} {H} V h (at.Over why.WriteFailed) piece ring left calls t = absurd t
+told_count {B} {H} V h (at.Over (why.Halted level)) piece ring left calls t = absurd t
+told_count {B} {H} V h (at.Over why.NoMemory) piece ring left calls t = refl
+told_count {B} {H} V h (at.Over why.Hijacked) piece ring left calls t = refl
+
+module _ {B H : Type 0} (peer : List ℕ) (local : Local) (lives : List Life) (calls taken : ℕ) where
+  -- the link took some of the ring, and not all
+  pub took_some : (a : At B H) (before after held : List ℕ) (n : ℕ) → IsFilledAt a before → after ≡ drop n before → n ≤ length before
+      → 0 < length after
+      → BehindWrite (write.Took n) (shown_at a before held peer local lives calls taken) (shown_at a after held peer local lives calls taken)
+  took_some a before after held n is off few some =
+      let left = owed_left a before after n is off few in
+      inl (record {
+        some = λ none. some_not (owed_at a after) (filled_owes a before after is some) (left ∙ none);
+        owed = left;
+        state = refl;
+        why = filled_why a before is;
+        replied = refl;
+        held = refl;
+        after = refl;
+        sure = λ sure. sure;
+      })
+
+  -- it had to wait
+  pub took_none : (a : At B H) (before after held : List ℕ) → IsFilledAt a before → after ≡ before
+      → BehindWrite write.NotYet (shown_at a before held peer local lives calls taken) (shown_at a after held peer local lives calls taken)
+  took_none a before after held is off = record {
+    some = some_not (owed_at a before) (filled_owes a before before is (filled_ring a before is));
+    owed = ap (λ (z : List ℕ). owed_at a z) off;
+    state = refl;
+    why = filled_why a before is;
+    replied = refl;
+    held = refl;
+    after = refl;
+    sure = λ sure. sure;
+  }
+
+  -- the bytes held were fed behind a reply
+  kept_fed : (b : At B H) (before ring held left : List ℕ) (fresh new : Intake) → Fed fresh [] → FeedsHeld fresh held new left b → ring ≡ []
+      → 0 < calls
+      → KeptTo (state_at b) (why_at b) (shown_at {B = B} {H = H} (at.Writing true) before held peer local lives calls taken)
+      (shown_at b ring left peer local lives calls taken)
+  kept_fed at.Reading before ring held left fresh new empty f none some = (refl, one_more calls some, none)
+  kept_fed at.Asked before ring held left fresh new empty f none some = (refl, one_more calls some, none)
+  kept_fed (at.Refused fault) before ring held left fresh new empty f none some = (refl, one_more calls some, none)
+  kept_fed (at.Answering framer) before ring held left fresh new empty f none some = absurd f
+  kept_fed (at.Writing keeps) before ring held left fresh new empty f none some = absurd f
+  kept_fed (at.Handing now) before ring held left fresh new empty f none some = absurd f
+  kept_fed at.Refusing before ring held left fresh new empty f none some = absurd f
+  kept_fed (at.Taken now) before ring held left fresh new empty f none some = absurd f
+  kept_fed (at.Speaking now) before ring held left fresh new empty f none some = absurd f
+  kept_fed at.Parting before ring held left fresh new empty f none some = absurd f
+  kept_fed (at.Over why.Closed) before ring held left fresh new empty f none some = absurd f
+  kept_fed (at.Over why.PeerEnd) before ring held left fresh new empty f none some = absurd f
+  kept_fed (at.Over (why.Idle by)) before ring held left fresh new empty f none some = absurd f
+  kept_fed (at.Over (why.TimedOut since moment)) before ring held left fresh new empty f none some = absurd f
+  kept_fed (at.Over (why.Stalled since moment)) before ring held left fresh new empty f none some = absurd f
+  kept_fed (at.Over (why.Unread level)) before ring held left fresh new empty f none some = absurd f
+  kept_fed (at.Over why.ReadFailed) before ring held left fresh new empty f none some = absurd f
+  kept_fed (at.Over why.WriteFailed) before ring held left fresh new empty f none some = absurd f
+  kept_fed (at.Over (why.Halted level)) before ring held left fresh new empty f none some = absurd f
+  kept_fed (at.Over why.NoMemory) before ring held left fresh new empty f none some = (refl, some_not held (f.rightly [] empty).some)
+  kept_fed (at.Over why.Hijacked) before ring held left fresh new empty f none some = absurd f
+
+  -- the link took all of it
+  pub took_all : (V : Voice H) (a b : At B H) (before ring held left : List ℕ) (n : ℕ) (old new : Intake)
+      → CompletesTo V a old held b new left ring → IsFilledAt a before → RestsAt a old held before calls → [] ≡ drop n before → n ≤ length before
+      → BehindWrite (write.Took n) (shown_at a before held peer local lives calls taken) (shown_at b ring left peer local lives calls taken)
+  took_all V at.Reading b before ring held left n old new e is rests off few = absurd is
+  took_all V at.Asked b before ring held left n old new e is rests off few = absurd is
+  took_all V (at.Refused f) b before ring held left n old new e is rests off few = absurd is
+  took_all V (at.Answering f) b before ring held left n old new e is rests off few =
+      let rest = owed_left {B = B} {H = H} (at.Answering f) before [] n is off few in
+      inl (record {
+        some = λ none. some_not f.rest.bytes is.1 (rest ∙ none);
+        owed = ap (λ (d : At B H). owed_at d ring) e.0 ∙ ap (λ (z : List ℕ). z ++ f.rest.bytes) e.2 ∙ rest;
+        state = ap (λ (d : At B H). state_at d) e.0;
+        why = ap (λ (d : At B H). why_at d) e.0;
+        replied = ap (λ (d : At B H). replied_at d calls) e.0;
+        held = e.1.1;
+        after = ap (λ (d : At B H). after_at d) e.0;
+        sure = λ sure. ap (λ (d : At B H). sure_at d) e.0 ∙ sure;
+      })
+  took_all V (at.Writing true) b before ring held left n old new e is rests off few =
+      inr (sym off, kept_fed b before ring held left e.0 new e.1 e.2 e.3 rests.1.1.0)
+  took_all V (at.Writing false) b before ring held left n old new e is rests off few =
+      inr (sym off, (ap (λ (d : At B H). state_at d) e.0, ap (λ (d : At B H). why_at d) e.0))
+  took_all V (at.Handing h) b before ring held left n old new e is rests off few =
+      inr (sym off, (told_to V h b held ring left e, λ taken. told_count V h b held ring left calls e ∙ one_more calls rests.1))
+  took_all V at.Refusing b before ring held left n old new e is rests off few =
+      inr (sym off, (ap (λ (d : At B H). state_at d) e.0, ap (λ (d : At B H). why_at d) e.0))
+  took_all V (at.Taken h) b before ring held left n old new e is rests off few = absurd is
+  took_all V (at.Speaking h) b before ring held left n old new e is rests off few =
+      inr (
+        sym off,
+        (
+          ap (λ (d : At B H). state_at d) e.0,
+          ap (λ (d : At B H). why_at d) e.0,
+          ap (λ (d : At B H). replied_at d calls) e.0,
+          ap (λ (d : At B H). owed_at d ring) e.0 ∙ e.2,
+        ),
+      )
+  took_all V at.Parting b before ring held left n old new e is rests off few =
+      inr (sym off, (ap (λ (d : At B H). state_at d) e.0, ap (λ (d : At B H). why_at d) e.0))
+  took_all V (at.Over w) b before ring held left n old new e is rests off few = absurd is
 
 -- nothing is in the ring where a refusal stands
 pub refused_ring : {B H : Type 0} (a : At B H) (fault : Fault) (intake : Intake) (held ring : List ℕ) (calls : ℕ) → a ≡ at.Refused fault
     → RestsAt a intake held ring calls → ring ≡ []
 refused_ring {B} {H} a fault intake held ring calls e h = (subst (λ (b : At B H). RestsAt b intake held ring calls) e h).0
+
+-- none stands where a request does
+pub unrefused : {B H : Type 0} (a : At B H) → state_at a ≡ state.Ready → ((fault : Fault) → a ≡ at.Refused fault → ⊥) → fault_at a ≡ None
+unrefused {B} {H} at.Reading e not = cc
+unrefused {B} {H} at.Asked e not = refl
+unrefused {B} {H} (at.Refused f) e not = absurd (not f refl)
+unrefused {B} {H} (at.Answering f) e not = cc
+unrefused {B} {H} (at.Writing keeps) e not = cc
+unrefused {B} {H} (at.Handing h) e not = cc
+unrefused {B} {H} at.Refusing e not = cc
+unrefused {B} {H} (at.Taken h) e not = cc
+unrefused {B} {H} (at.Speaking h) e not = cc
+unrefused {B} {H} at.Parting e not = cc
+unrefused {B} {H} (at.Over w) e not = cc

@@ -108,7 +108,7 @@ ends_since (Some why.WriteFailed) first s u reads writes over h =
     (h.0 ∙ over, rose_within first.failed_writes s.failed_writes u.failed_writes u.failed_writes writes h.1 last)
 ends_since (Some (why.Halted level)) first s u reads writes over h = absurd h
 ends_since (Some why.NoMemory) first s u reads writes over h = h ∙ over
-ends_since (Some why.Hijacked) first s u reads writes over h = absurd h
+ends_since (Some why.Hijacked) first s u reads writes over h = h ∙ over
 
 -- the same, where that nothing had ended it is told by its why
 pub ends_then : (before w : Option Why) (first s u : Seen) → before ≡ None → first.failed_reads ≤ s.failed_reads → first.failed_writes ≤ s.failed_writes

@@ -11,7 +11,7 @@ use Rattle.conn_core.specs.declared.left.Step.TheVariants as step
 use Rattle.conn_core.specs.declared.state.State.{State}
 use Rattle.conn_core.specs.declared.state.State.TheVariants as state
 use Rattle.conn_core.specs.Inner.{IsSpentLeft, TakesUp, SaysOnce, left_at, MadeTo, StepMoves}
-use Rattle.conn_core.specs.Moves.{Starts, WantsMemory, read_waits, ReadsOnce, write_waits, WritesOnce, OwesRightly, Move, Moment, IsOpen, MayWrite, Spends, Goes, turn_at, StopsIn, TurnStops, flush_at, FlushStops}
+use Rattle.conn_core.specs.Moves.{read_waits, ReadsOnce, write_waits, WritesOnce, OwesRightly, Move, Moment, IsOpen, MayWrite, Spends, Goes, turn_at, StopsIn, TurnStops, flush_at, FlushStops, IsOwing}
 use Rattle.conn_core.specs.Moves.{Run, Refusal, Want, Read, Write}
 use Rattle.conn_core.specs.Shown.{Shown}
 use Rattle.conn_core.proofs.MoveLemmas.{goes_on}
@@ -25,15 +25,6 @@ may_write o s l reads writes =
     let some : 0 < l.reads = omega (arith, reads) in
     let more : 0 < l.writes = omega (arith, writes) in
     record { reads = some; writes = more; unwaited = refl }
-
--- memory was refused before a run
-pub wants_memory : (o n : Shown) → Starts 0 o n → n.state ≡ state.Over → WantsMemory o n
-wants_memory o n h over =
-    let calls : n.calls ≡ o.calls = omega (arith, h.calls) in
-    elim h.place [
-      | inl p ↦ let saying : n.state ≡ state.Answering = p.0 in cc
-      | inr p ↦ record { same = h.same; calls = calls; state = over; why = p.1 }
-    ]
 
 -- what a turn spends on taking up what stands
 takes : (o n : Shown) (s : Seen) (l m : Left) (k : ℕ) → l.runs - m.runs ≡ k → m ≡ record l { runs = m.runs } → m.runs ≤ l.runs
@@ -50,10 +41,10 @@ pub takes_makes : (o n : Shown) (s : Seen) (l m : Left) → TakesUp (l.runs - m.
     → o.state ≡ state.Ready → IsOpen (left_at o s l false) → OwesRightly n → MadeTo (left_at o s l false) (left_at n s m false)
 takes_makes o n s l m up is few ready may owes =
     elim up [
-      | inl run ↦ (Run, (ready, may, takes o n s l m 1 run.0 is few, refl, run.1), owes)
+      | inl run ↦ (Run, (ready, run.1, may, takes o n s l m 1 run.0 is few, refl, run.2), owes)
       | inr none ↦ elim none.1 [
-        | inl names ↦ (Refusal, (ready, may, takes o n s l m 0 none.0 is few, refl, names), owes)
-        | inr wants ↦ (Want, (inl (ready, may), takes o n s l m 0 none.0 is few, refl, wants), owes)
+        | inl names ↦ (Refusal names.0, (ready, names.1, may, takes o n s l m 0 none.0 is few, refl, names.2), owes)
+        | inr wants ↦ (Want, (inl (ready, wants.0, may), takes o n s l m 0 none.0 is few, refl, wants.1), owes)
       ]
     ]
 
@@ -74,30 +65,30 @@ read_makes a o n s u l came w waits once reading some owes =
     (Read a, (reading, is_open o s l some, record { runs_are = runs; reads_are = reads; writes_are = writes; waits_is = sym waits }, once), owes)
 
 -- memory was refused before a write
-pub want_makes : (o n : Shown) (s u : Seen) (l : Left) → SaysOnce said.Unwritten o n s u → o.state ≡ state.Answering → MayWrite (left_at o s l false)
-    → OwesRightly n → MadeTo (left_at o s l false) (left_at n u l false)
-want_makes o n s u l h saying may owes =
+pub want_makes : (o n : Shown) (s u : Seen) (l : Left) → SaysOnce said.Unwritten o n s u → MayWrite (left_at o s l false) → OwesRightly n
+    → MadeTo (left_at o s l false) (left_at n u l false)
+want_makes o n s u l h may owes =
     let runs : l.runs ≡ l.runs + 0 = omega arith in
     let reads : l.reads ≡ l.reads + 0 = omega arith in
     let writes : l.writes ≡ l.writes + 0 = omega arith in
-    (Want, (inr (saying, may), record { runs_are = runs; reads_are = reads; writes_are = writes; waits_is = refl }, h.0, h.1), owes)
+    (Want, (inr (h.1, h.2, may), record { runs_are = runs; reads_are = reads; writes_are = writes; waits_is = refl }, h.0, h.3), owes)
 
 pub write_makes : (a : LinkWrite) (o n : Shown) (s u : Seen) (l : Left) (w : Bool) → write_waits a ≡ w → WritesOnce a o n s u
-    → o.state ≡ state.Answering → MayWrite (left_at o s l false) → OwesRightly n
+    → IsOwing o → MayWrite (left_at o s l false) → OwesRightly n
     → MadeTo (left_at o s l false) (left_at n u (record { runs = l.runs; reads = l.reads; writes = l.writes - 1; came = l.came }) w)
-write_makes a o n s u l w waits once saying may owes =
+write_makes a o n s u l w waits once owing may owes =
     let runs : l.runs ≡ l.runs + 0 = omega arith in
     let reads : l.reads ≡ l.reads + 0 = omega arith in
     let writes : l.writes ≡ (l.writes - 1) + 1 = omega (arith, may.writes) in
-    (Write a, (saying, may, record { runs_are = runs; reads_are = reads; writes_are = writes; waits_is = sym waits }, once), owes)
+    (Write a, (owing, may, record { runs_are = runs; reads_are = reads; writes_are = writes; waits_is = sym waits }, once), owes)
 
 -- why a turn stops, by what is left
-pub over_stops : (n : Shown) (s : Seen) (l : Left) → (n.state ≡ state.Over) ⊎ (n.state ≡ state.Hijacked) → TurnStops (left_at n s l false)
-over_stops n s l e =
-    elim e [
-      | inl over ↦ inr (subst (λ (b : State). StopsIn b (left_at n s l false)) (sym over) tt)
-      | inr held ↦ inr (subst (λ (b : State). StopsIn b (left_at n s l false)) (sym held) tt)
-    ]
+pub over_stops : (n : Shown) (s : Seen) (l : Left) → n.state ≡ state.Over → TurnStops (left_at n s l false)
+over_stops n s l over = inr (subst (λ (b : State). StopsIn b (left_at n s l false)) (sym over) tt)
+
+-- a hijacker has the connection, and nothing is owed
+pub handed_stops : (n : Shown) (s : Seen) (l : Left) → n.state ≡ state.Hijacked → n.owed ≡ [] → TurnStops (left_at n s l false)
+handed_stops n s l held none = inr (subst (λ (b : State). StopsIn b (left_at n s l false)) (sym held) (inl none))
 
 pub spent_stops : (n : Shown) (s : Seen) (l : Left) → (n.state ≡ state.Reading) ⊎ (n.state ≡ state.Ready) → IsSpentLeft l
     → TurnStops (left_at n s l false)
@@ -107,8 +98,12 @@ spent_stops n s l e spent =
       | inr ready ↦ inr (subst (λ (b : State). StopsIn b (left_at n s l false)) (sym ready) spent)
     ]
 
-pub unwritten_stops : (n : Shown) (s : Seen) (l : Left) → n.state ≡ state.Answering → (l.reads ≡ 0) ⊎ (l.writes ≡ 0) → TurnStops (left_at n s l false)
-unwritten_stops n s l saying none = inr (subst (λ (b : State). StopsIn b (left_at n s l false)) (sym saying) none)
+pub unwritten_stops : (n : Shown) (s : Seen) (l : Left) → IsOwing n → (l.reads ≡ 0) ⊎ (l.writes ≡ 0) → TurnStops (left_at n s l false)
+unwritten_stops n s l owing none =
+    elim owing [
+      | inl saying ↦ inr (subst (λ (b : State). StopsIn b (left_at n s l false)) (sym saying) none)
+      | inr held ↦ inr (subst (λ (b : State). StopsIn b (left_at n s l false)) (sym held.0) (inr none))
+    ]
 
 -- the moves so far
 pub record Moving (first now : Moment) : Type 0 where
@@ -196,21 +191,22 @@ flush_may o s x few =
 
 -- one write of a flush
 pub flush_moving_step : (a : LinkWrite) (first : Moment) (m n : Shown) (t u : Seen) (x : ℕ) (w : Bool) → write_waits a ≡ w → WritesOnce a m n t u
-    → m.state ≡ state.Answering → x < 16 → OwesRightly n → Moving first (flush_at m t x false) → Moving first (flush_at n u (x + 1) w)
-flush_moving_step a first m n t u x w waits once saying few owes h =
+    → IsOwing m → x < 16 → OwesRightly n → Moving first (flush_at m t x false) → Moving first (flush_at n u (x + 1) w)
+flush_moving_step a first m n t u x w waits once owing few owes h =
     let writes : 16 - x ≡ (16 - (x + 1)) + 1 = omega (arith, few) in
     let spends : Spends 0 0 1 (write_waits a) (flush_at m t x false) (flush_at n u (x + 1) w) =
     record { runs_are = refl; reads_are = refl; writes_are = writes; waits_is = sym waits } in
-    moving_step first (flush_at m t x false) (flush_at n u (x + 1) w) h (Write a, (saying, flush_may m t x few, spends, once), owes)
+    moving_step first (flush_at m t x false) (flush_at n u (x + 1) w) h (Write a, (owing, flush_may m t x few, spends, once), owes)
 
 -- memory was refused in a flush
-pub flush_wants : (first : Moment) (m n : Shown) (t u : Seen) (x : ℕ) → SaysOnce said.Unwritten m n t u
-    → m.state ≡ state.Answering → x < 16 → OwesRightly n → Moving first (flush_at m t x false) → Moving first (flush_at n u x false)
-flush_wants first m n t u x says saying few owes h =
+pub flush_wants : (first : Moment) (m n : Shown) (t u : Seen) (x : ℕ) → SaysOnce said.Unwritten m n t u → x < 16 → OwesRightly n
+    → Moving first (flush_at m t x false) → Moving first (flush_at n u x false)
+flush_wants first m n t u x says few owes h =
     let writes : 16 - x ≡ (16 - x) + 0 = omega arith in
     let spends : Spends 0 0 0 false (flush_at m t x false) (flush_at n u x false) =
     record { runs_are = refl; reads_are = refl; writes_are = writes; waits_is = refl } in
-    moving_step first (flush_at m t x false) (flush_at n u x false) h (Want, (inr (saying, flush_may m t x few), spends, says.0, says.1), owes)
+    moving_step first (flush_at m t x false) (flush_at n u x false) h
+    (Want, (inr (says.1, says.2, flush_may m t x few), spends, says.0, says.3), owes)
 
 pub flush_made : (o n : Shown) (s u : Seen) (x : ℕ) (w : Bool) → Moving (flush_at o s 0 false) (flush_at n u x w) → FlushStops (flush_at n u x w)
     → FlushMade o n s u x

@@ -45,7 +45,7 @@ module _ {B H : Type 0} (V : Voice H) (T : Teller H) (old new : Seen) (peer : Li
         shows = shows_given old new peer h.given h.sent h.over piece one given_is over_is h.shows;
         at = subst (λ (x : List ℕ). HoldsAt b V T new h.over (h.given ++ piece) h.sent (record { intake = intake; held = left; ring = x; calls = c.calls }))
             (sym between.ring)
-            (feeds_hold V T new h.over (h.given ++ piece) h.sent c.intake intake piece left c.calls now b f between.fed
+            (feeds_hold V T new h.over (h.given ++ piece) h.sent c.intake intake piece left c.calls now between.live b f between.fed
             (subst (λ (x : List ℕ). Stands V T h.over (h.given ++ piece) h.sent c.calls silent x []) rest
             (stands_given V T h.over h.given h.sent (now ++ c.held) piece c.calls between.stands)));
       }

@@ -7,14 +7,14 @@ use Rattle.reply_framing.specs.Owes.{Owes}
 use Rattle.reply_framing.specs.Reply.{WholeReply}
 use Rattle.talk_core.specs.declared.ended.Why.{Why}
 use Rattle.talk_core.specs.declared.ended.Why.TheVariants as why
-use Rattle.talk_core.specs.Stands.{silent, replies, refuses}
+use Rattle.talk_core.specs.Stands.{silent, replies, refuses, hands_over}
 use Rattle.talk_core.specs.Tail.{Voice}
 use Rattle.talk_core.specs.Teller.{Teller, AgreesBelow}
 use Rattle.talk_core.proofs.CallerLemmas.{stands_agrees, partly_agrees, ends_agrees, agrees_same, agrees_trans}
 use Rattle.conn_core.specs.declared.inside.Inside.{Inside}
 use Rattle.conn_core.specs.declared.place.At.{At}
 use Rattle.conn_core.specs.declared.place.At.TheVariants as at
-use Rattle.conn_core.specs.Holds.{Kept, past, Between, Replying, HoldsAt, StandsAt, HoldsBy}
+use Rattle.conn_core.specs.Holds.{Kept, past, Between, Replying, Handed, HoldsAt, StandsAt, HoldsBy}
 use Rattle.conn_core.specs.Plain.{EndsPlainly}
 use Rattle.conn_core.specs.Runs.{RunsBy}
 
@@ -23,13 +23,25 @@ module _ {H : Type 0} (V : Voice H) (T U : Teller H) (s : Seen) (over : Bool) (g
   between_agrees now h = record {
     fed = h.fed;
     ring = h.ring;
+    live = h.live;
     stands = stands_agrees T U V over given sent c.calls silent (now ++ c.held) [] (λ i lt r. same i (omega (arith, lt)) r) h.stands;
   }
 
   replying_agrees : (k : ℕ) (r : Parts) (behind : List ℕ) → Replying V T over given sent c k r behind → Replying V U over given sent c k r behind
   replying_agrees k r behind h = record {
     count = h.count;
+    live = h.live;
     stands = stands_agrees T U V over given sent k (replies r) c.held (c.ring ++ behind) (λ i lt q. same i (omega (arith, lt, h.count)) q) h.stands;
+  }
+
+  abbrev handed_agrees : Handed V T over given sent c → Handed V U over given sent c
+  handed_agrees h = record {
+    k = h.k;
+    request = h.request;
+    first = h.first;
+    rest = h.rest;
+    count = h.count;
+    stands = stands_agrees T U V over given sent h.k (hands_over h.request h.first) h.rest c.ring (λ i lt q. same i (omega (arith, lt, h.count)) q) h.stands;
   }
 
   here : (k : ℕ) (r : Parts) → c.calls ≡ suc k → T k r ≡ U k r
@@ -49,7 +61,7 @@ module _ {H : Type 0} (V : Voice H) (T U : Teller H) (s : Seen) (over : Bool) (g
       e.1.0,
       record {
         word = e.1.1.word;
-        plain = e.1.1.plain;
+        untimed = e.1.1.untimed;
         partly = partly_agrees T U V over given sent c.calls None e.1.1.word e.1.0 same e.1.1.partly;
       },
       e.1.2,
@@ -60,7 +72,7 @@ module _ {H : Type 0} (V : Voice H) (T U : Teller H) (s : Seen) (over : Bool) (g
     e.0,
     record {
       word = e.1.word;
-      plain = e.1.plain;
+      untimed = e.1.untimed;
       partly = partly_agrees T U V over given sent c.calls None e.1.word e.0 same e.1.partly;
     },
   )
@@ -83,6 +95,16 @@ module _ {H : Type 0} (V : Voice H) (T U : Teller H) (s : Seen) (over : Bool) (g
     h.2 ∙ ap (λ (w : WholeReply H). w.after) (here h.0 h.1 h.3.count),
     replying_agrees h.0 h.1 [] h.3,
   )
+  retold_at {B} (at.Handing who) h = (
+    h.0,
+    h.1,
+    sym (ap (λ (w : WholeReply H). w.after) (here h.0 h.1 h.4.count)) ∙ h.2,
+    sym (ap (λ (w : WholeReply H). w.hijacker) (here h.0 h.1 h.4.count)) ∙ h.3,
+    replying_agrees h.0 h.1 [] h.4,
+  )
+  retold_at {B} (at.Taken who) h = record { handed = handed_agrees h.handed; live = h.live; goes = h.goes; behind = h.behind }
+  retold_at {B} (at.Speaking who) h = record { handed = handed_agrees h.handed; live = h.live; goes = h.goes; behind = h.behind }
+  retold_at {B} at.Parting h = record { handed = handed_agrees h.handed; ended = h.ended }
   retold_at {B} at.Refusing h = (
     h.0,
     h.1,

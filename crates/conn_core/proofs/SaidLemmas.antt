@@ -4,6 +4,7 @@ use Rattle.rack_outside.specs.Link.{Seen, IsOneWrite}
 use Rattle.message_framing.specs.declared.intake.Intake.{Intake}
 use Rattle.talk_core.specs.declared.ended.Why.{Why}
 use Rattle.talk_core.specs.declared.ended.Why.TheVariants as why
+use Rattle.talk_core.specs.Tail.{Voice}
 use Rattle.conn_core.specs.declared.place.At.{At}
 use Rattle.conn_core.specs.declared.place.At.TheVariants as at
 use Rattle.conn_core.specs.declared.state.State.TheVariants as state
@@ -12,7 +13,7 @@ use Rattle.conn_core.specs.Inner.{SaysOn, IsFilledAt}
 use Rattle.conn_core.specs.Place.{state_at, IsSaying}
 use Rattle.conn_core.specs.Rests.{RestsAt}
 use Rattle.conn_core.specs.Shown.{Shown, Moved, replied_at, owed_at, why_at}
-use Rattle.conn_core.specs.Steps.{FeedsHeld, CompletesTo}
+use Rattle.conn_core.specs.Steps.{FeedsHeld, Tells, CompletesTo}
 use Rattle.conn_core.proofs.ShownLemmas.{appended_nil}
 
 -- one write, of the same connection
@@ -42,36 +43,63 @@ moved_by_write old new s s' peer local lives one taken =
 pub filled_says : {B H : Type 0} (a : At B H) (ring : List ℕ) → IsFilledAt a ring → IsSaying a
 filled_says {B} {H} at.Reading ring is = absurd is
 filled_says {B} {H} at.Asked ring is = absurd is
-filled_says {B} {H} (at.Refused f) ring is = absurd is
+filled_says {B} {H} (at.Refused fault) ring is = absurd is
 filled_says {B} {H} (at.Answering f) ring is = tt
 filled_says {B} {H} (at.Writing keeps) ring is = tt
+filled_says {B} {H} (at.Handing h) ring is = tt
 filled_says {B} {H} at.Refusing ring is = tt
+filled_says {B} {H} (at.Taken h) ring is = absurd is
+filled_says {B} {H} (at.Speaking h) ring is = tt
+filled_says {B} {H} at.Parting ring is = tt
 filled_says {B} {H} (at.Over ended) ring is = absurd is
 
 pub filled_ring : {B H : Type 0} (a : At B H) (ring : List ℕ) → IsFilledAt a ring → 0 < length ring
 filled_ring {B} {H} at.Reading ring is = absurd is
 filled_ring {B} {H} at.Asked ring is = absurd is
-filled_ring {B} {H} (at.Refused f) ring is = absurd is
+filled_ring {B} {H} (at.Refused fault) ring is = absurd is
 filled_ring {B} {H} (at.Answering f) ring is = omega (arith, is.0)
 filled_ring {B} {H} (at.Writing keeps) ring is = is
+filled_ring {B} {H} (at.Handing h) ring is = is
 filled_ring {B} {H} at.Refusing ring is = is
+filled_ring {B} {H} (at.Taken h) ring is = absurd is
+filled_ring {B} {H} (at.Speaking h) ring is = is
+filled_ring {B} {H} at.Parting ring is = is
 filled_ring {B} {H} (at.Over ended) ring is = absurd is
 
-pub filled_state : {B H : Type 0} (a : At B H) (ring : List ℕ) → IsFilledAt a ring → state_at a ≡ state.Answering
-filled_state {B} {H} at.Reading ring is = absurd is
-filled_state {B} {H} at.Asked ring is = absurd is
-filled_state {B} {H} (at.Refused f) ring is = absurd is
-filled_state {B} {H} (at.Answering f) ring is = refl
-filled_state {B} {H} (at.Writing keeps) ring is = refl
-filled_state {B} {H} at.Refusing ring is = refl
-filled_state {B} {H} (at.Over ended) ring is = absurd is
+-- with some bytes in the ring
+pub filled_owes : {B H : Type 0} (a : At B H) (before ring : List ℕ) → IsFilledAt a before → 0 < length ring → 0 < length (owed_at a ring)
+filled_owes {B} {H} at.Reading before ring is some = absurd is
+filled_owes {B} {H} at.Asked before ring is some = absurd is
+filled_owes {B} {H} (at.Refused fault) before ring is some = absurd is
+filled_owes {B} {H} (at.Answering f) before ring is some = omega (arith, some, length-append ring f.rest.bytes)
+filled_owes {B} {H} (at.Writing keeps) before ring is some = some
+filled_owes {B} {H} (at.Handing h) before ring is some = some
+filled_owes {B} {H} at.Refusing before ring is some = some
+filled_owes {B} {H} (at.Taken h) before ring is some = absurd is
+filled_owes {B} {H} (at.Speaking h) before ring is some = some
+filled_owes {B} {H} at.Parting before ring is some = some
+filled_owes {B} {H} (at.Over ended) before ring is some = absurd is
+
+-- it isn't over
+filled_live : {B H : Type 0} (a : At B H) (ring : List ℕ) → IsFilledAt a ring → state.Over ≡ state_at a → ⊥
+filled_live {B} {H} at.Reading ring is e = absurd is
+filled_live {B} {H} at.Asked ring is e = absurd is
+filled_live {B} {H} (at.Refused fault) ring is e = absurd is
+filled_live {B} {H} (at.Answering f) ring is e = cc
+filled_live {B} {H} (at.Writing keeps) ring is e = cc
+filled_live {B} {H} (at.Handing h) ring is e = cc
+filled_live {B} {H} at.Refusing ring is e = cc
+filled_live {B} {H} (at.Taken h) ring is e = absurd is
+filled_live {B} {H} (at.Speaking h) ring is e = cc
+filled_live {B} {H} at.Parting ring is e = cc
+filled_live {B} {H} (at.Over ended) ring is e = absurd is
 
 -- what the place behind a write shows
 pub record SaidShown {B H : Type 0} (a b : At B H) (before ring : List ℕ) (calls : ℕ) (s s' : Seen) : Type 0 where
-  pub replied : SaysOn (state_at b) (replied_at a calls) (replied_at b calls)
+  pub replied : SaysOn (state_at a) (state_at b) (replied_at a calls) (replied_at b calls)
   pub why : IsOfFlush (why_at b)
   pub ends : TurnEnds (why_at b) s s'
-  pub less : state_at b ≡ state.Answering → length (owed_at b ring) < length (owed_at a before)
+  pub less : state_at b ≡ state_at a → length (owed_at b ring) < length (owed_at a before)
 
 shorter : (piece after before : List ℕ) → before ≡ piece ++ after → 0 < length piece → length after < length before
 shorter piece after before is some = omega (arith, some, ap length is, length-append piece after)
@@ -83,88 +111,142 @@ shorter_with more piece after before is some =
 -- some bytes of the ring were taken, and some are left
 pub said_on : {B H : Type 0} (a : At B H) (before piece after : List ℕ) (calls : ℕ) (s s' : Seen) → IsFilledAt a before → before ≡ piece ++ after
     → 0 < length piece → s'.over ≡ s.over → SaidShown a a before after calls s s'
-said_on {B} {H} at.Reading before piece after calls s s' f is some over = absurd f
-said_on {B} {H} at.Asked before piece after calls s s' f is some over = absurd f
-said_on {B} {H} (at.Refused fault) before piece after calls s s' f is some over = absurd f
-said_on {B} {H} (at.Answering framer) before piece after calls s s' f is some over =
-    record { replied = refl; why = tt; ends = over; less = λ e. shorter_with framer.rest.bytes piece after before is some }
-said_on {B} {H} (at.Writing keeps) before piece after calls s s' f is some over =
+said_on {B} {H} at.Reading before piece after calls s s' filled is some over = absurd filled
+said_on {B} {H} at.Asked before piece after calls s s' filled is some over = absurd filled
+said_on {B} {H} (at.Refused fault) before piece after calls s s' filled is some over = absurd filled
+said_on {B} {H} (at.Answering f) before piece after calls s s' filled is some over =
+    record { replied = (refl, refl); why = tt; ends = over; less = λ e. shorter_with f.rest.bytes piece after before is some }
+said_on {B} {H} (at.Writing keeps) before piece after calls s s' filled is some over =
+    record { replied = (refl, refl); why = tt; ends = over; less = λ e. shorter piece after before is some }
+said_on {B} {H} (at.Handing h) before piece after calls s s' filled is some over =
+    record { replied = (refl, refl); why = tt; ends = over; less = λ e. shorter piece after before is some }
+said_on {B} {H} at.Refusing before piece after calls s s' filled is some over =
+    record { replied = (refl, refl); why = tt; ends = over; less = λ e. shorter piece after before is some }
+said_on {B} {H} (at.Taken h) before piece after calls s s' filled is some over = absurd filled
+said_on {B} {H} (at.Speaking h) before piece after calls s s' filled is some over =
     record { replied = refl; why = tt; ends = over; less = λ e. shorter piece after before is some }
-said_on {B} {H} at.Refusing before piece after calls s s' f is some over =
+said_on {B} {H} at.Parting before piece after calls s s' filled is some over =
     record { replied = refl; why = tt; ends = over; less = λ e. shorter piece after before is some }
-said_on {B} {H} (at.Over ended) before piece after calls s s' f is some over = absurd f
-
-not_answering : state.Over ≡ state.Answering → ⊥
-not_answering e = cc
+said_on {B} {H} (at.Over ended) before piece after calls s s' filled is some over = absurd filled
 
 -- it ended in this write
-pub said_over : {B H : Type 0} (a : At B H) (w : Why) (before ring : List ℕ) (calls : ℕ) (s s' : Seen) → IsOfFlush (Some w) → TurnEnds (Some w) s s'
-    → SaidShown a (at.Over w) before ring calls s s'
-said_over {B} {H} a w before ring calls s s' of ends = record { replied = tt; why = of; ends = ends; less = λ e. absurd (not_answering e) }
+pub said_over : {B H : Type 0} (a : At B H) (w : Why) (before ring : List ℕ) (calls : ℕ) (s s' : Seen) → IsFilledAt a before → IsOfFlush (Some w)
+    → TurnEnds (Some w) s s' → SaidShown a (at.Over w) before ring calls s s'
+said_over {B} {H} a w before ring calls s s' filled of ends =
+    record { replied = tt; why = of; ends = ends; less = λ e. absurd (filled_live a before filled e) }
 
 below : (calls : ℕ) → 0 < calls → calls - 1 < calls
 below calls some = omega (arith, some)
 
 -- the connection went on behind a reply
-fed_behind : {B H : Type 0} (keeps : Bool) (b : At B H) (before : List ℕ) (calls : ℕ) (s s' : Seen) (fresh new : Intake) (held left : List ℕ)
-    → FeedsHeld fresh held new left b → 0 < calls → s'.over ≡ s.over → SaidShown (at.Writing keeps) b before [] calls s s'
-fed_behind {B} {H} keeps at.Reading before calls s s' fresh new held left f some over =
+fed_behind : {B H : Type 0} (keeps : Bool) (b : At B H) (before ring : List ℕ) (calls : ℕ) (s s' : Seen) (fresh new : Intake) (held left : List ℕ)
+    → FeedsHeld fresh held new left b → 0 < length before → 0 < calls → s'.over ≡ s.over → SaidShown (at.Writing keeps) b before ring calls s s'
+fed_behind {B} {H} keeps at.Reading before ring calls s s' fresh new held left f filled some over =
+    record { replied = (refl, below calls some); why = tt; ends = over; less = λ e. cc }
+fed_behind {B} {H} keeps at.Asked before ring calls s s' fresh new held left f filled some over =
+    record { replied = (refl, below calls some); why = tt; ends = over; less = λ e. cc }
+fed_behind {B} {H} keeps (at.Refused fault) before ring calls s s' fresh new held left f filled some over =
+    record { replied = (refl, below calls some); why = tt; ends = over; less = λ e. cc }
+fed_behind {B} {H} keeps (at.Answering framer) before ring calls s s' fresh new held left f filled some over = absurd f
+fed_behind {B} {H} keeps (at.Writing k) before ring calls s s' fresh new held left f filled some over = absurd f
+fed_behind {B} {H} keeps (at.Handing now) before ring calls s s' fresh new held left f filled some over = absurd f
+fed_behind {B} {H} keeps at.Refusing before ring calls s s' fresh new held left f filled some over = absurd f
+fed_behind {B} {H} keeps (at.Taken now) before ring calls s s' fresh new held left f filled some over = absurd f
+fed_behind {B} {H} keeps (at.Speaking now) before ring calls s s' fresh new held left f filled some over = absurd f
+fed_behind {B} {H} keeps at.Parting before ring calls s s' fresh new held left f filled some over = absurd f
+fed_behind {B} {H} keeps (at.Over why.Closed) before ring calls s s' fresh new held left f filled some over = absurd f
+fed_behind {B} {H} keeps (at.Over why.PeerEnd) before ring calls s s' fresh new held left f filled some over = absurd f
+fed_behind {B} {H} keeps (at.Over (why.Idle by)) before ring calls s s' fresh new held left f filled some over = absurd f
+fed_behind {B} {H} keeps (at.Over (why.TimedOut since moment)) before ring calls s s' fresh new held left f filled some over = absurd f
+fed_behind {B} {H} keeps (at.Over (why.Stalled since moment)) before ring calls s s' fresh new held left f filled some over = absurd f
+fed_behind {B} {H} keeps (at.Over (why.Unread level)) before ring calls s s' fresh new held left f filled some over = absurd f
+fed_behind {B} {H} keeps (at.Over why.ReadFailed) before ring calls s s' fresh new held left f filled some over = absurd f
+fed_behind {B} {H} keeps (at.Over why.WriteFailed) before ring calls s s' fresh new held left f filled some over = absurd f
+fed_behind {B} {H} keeps (at.Over (why.Halted level)) before ring calls s s' fresh new held left f filled some over = absurd f
+fed_behind {B} {H} keeps (at.Over why.NoMemory) before ring calls s s' fresh new held left f filled some over =
+    said_over (at.Writing keeps) why.NoMemory before ring calls s s' filled tt over
+fed_behind {B} {H} keeps (at.Over why.Hijacked) before ring calls s s' fresh new held left f filled some over = absurd f
+
+-- a hijacker took the connection over behind it
+told_behind : {B H : Type 0} (V : Voice H) (h : H) (b : At B H) (before ring held left : List ℕ) (calls : ℕ) (s s' : Seen)
+    → Tells V h held b ring left → 0 < length before → 0 < calls → s'.over ≡ s.over → SaidShown (at.Handing h) b before ring calls s s'
+told_behind {B} {H} V h at.Reading before ring held left calls s s' f filled some over = absurd f
+told_behind {B} {H} V h at.Asked before ring held left calls s s' f filled some over = absurd f
+told_behind {B} {H} V h (at.Refused fault) before ring held left calls s s' f filled some over = absurd f
+told_behind {B} {H} V h (at.Answering framer) before ring held left calls s s' f filled some over = absurd f
+told_behind {B} {H} V h (at.Writing k) before ring held left calls s s' f filled some over = absurd f
+told_behind {B} {H} V h (at.Handing now) before ring held left calls s s' f filled some over = absurd f
+told_behind {B} {H} V h at.Refusing before ring held left calls s s' f filled some over = absurd f
+told_behind {B} {H} V h (at.Taken now) before ring held left calls s s' f filled some over =
     record { replied = below calls some; why = tt; ends = over; less = λ e. cc }
-fed_behind {B} {H} keeps at.Asked before calls s s' fresh new held left f some over =
+told_behind {B} {H} V h (at.Speaking now) before ring held left calls s s' f filled some over =
     record { replied = below calls some; why = tt; ends = over; less = λ e. cc }
-fed_behind {B} {H} keeps (at.Refused fault) before calls s s' fresh new held left f some over =
+told_behind {B} {H} V h at.Parting before ring held left calls s s' f filled some over =
     record { replied = below calls some; why = tt; ends = over; less = λ e. cc }
-fed_behind {B} {H} keeps (at.Answering framer) before calls s s' fresh new held left f some over = absurd f
-fed_behind {B} {H} keeps (at.Writing k) before calls s s' fresh new held left f some over = absurd f
-fed_behind {B} {H} keeps at.Refusing before calls s s' fresh new held left f some over = absurd f
-fed_behind {B} {H} keeps (at.Over why.Closed) before calls s s' fresh new held left f some over = absurd f
-fed_behind {B} {H} keeps (at.Over why.PeerEnd) before calls s s' fresh new held left f some over = absurd f
-fed_behind {B} {H} keeps (at.Over (why.Idle by)) before calls s s' fresh new held left f some over = absurd f
-fed_behind {B} {H} keeps (at.Over (why.TimedOut since moment)) before calls s s' fresh new held left f some over = absurd f
-fed_behind {B} {H} keeps (at.Over (why.Stalled since moment)) before calls s s' fresh new held left f some over = absurd f
-fed_behind {B} {H} keeps (at.Over (why.Unread level)) before calls s s' fresh new held left f some over = absurd f
-fed_behind {B} {H} keeps (at.Over why.ReadFailed) before calls s s' fresh new held left f some over = absurd f
-fed_behind {B} {H} keeps (at.Over why.WriteFailed) before calls s s' fresh new held left f some over = absurd f
-fed_behind {B} {H} keeps (at.Over (why.Halted level)) before calls s s' fresh new held left f some over = absurd f
-fed_behind {B} {H} keeps (at.Over why.NoMemory) before calls s s' fresh new held left f some over =
-    said_over (at.Writing keeps) why.NoMemory before [] calls s s' tt over
-fed_behind {B} {H} keeps (at.Over why.Hijacked) before calls s s' fresh new held left f some over = absurd f
+told_behind {B} {H} V h (at.Over why.Closed) before ring held left calls s s' f filled some over = absurd f
+told_behind {B} {H} V h (at.Over why.PeerEnd) before ring held left calls s s' f filled some over = absurd f
+told_behind {B} {H} V h (at.Over (why.Idle by)) before ring held left calls s s' f filled some over = absurd f
+told_behind {B} {H} V h (at.Over (why.TimedOut since moment)) before ring held left calls s s' f filled some over = absurd f
+told_behind {B} {H} V h (at.Over (why.Stalled since moment)) before ring held left calls s s' f filled some over = absurd f
+told_behind {B} {H} V h (at.Over (why.Unread level)) before ring held left calls s s' f filled some over = absurd f
+told_behind {B} {H} V h (at.Over why.ReadFailed) before ring held left calls s s' f filled some over = absurd f
+told_behind {B} {H} V h (at.Over why.WriteFailed) before ring held left calls s s' f filled some over = absurd f
+told_behind {B} {H} V h (at.Over (why.Halted level)) before ring held left calls s s' f filled some over = absurd f
+told_behind {B} {H} V h (at.Over why.NoMemory) before ring held left calls s s' f filled some over =
+    said_over (at.Handing h) why.NoMemory before ring calls s s' filled tt over
+told_behind {B} {H} V h (at.Over why.Hijacked) before ring held left calls s s' f filled some over =
+    said_over (at.Handing h) why.Hijacked before ring calls s s' filled tt over
 
 -- all of the ring was taken
-pub said_whole : {B H : Type 0} (a b : At B H) (before : List ℕ) (calls : ℕ) (s s' : Seen) (old new : Intake) (held left : List ℕ)
-    → CompletesTo a old held b new left → IsFilledAt a before → RestsAt a old held before calls → s'.over ≡ s.over
-    → SaidShown a b before [] calls s s'
-said_whole {B} {H} at.Reading b before calls s s' old new held left e f rests over = absurd f
-said_whole {B} {H} at.Asked b before calls s s' old new held left e f rests over = absurd f
-said_whole {B} {H} (at.Refused fault) b before calls s s' old new held left e f rests over = absurd f
-said_whole {B} {H} (at.Answering framer) b before calls s s' old new held left e f rests over =
-    subst (λ (d : At B H). SaidShown (at.Answering framer) d before [] calls s s') (sym e.0)
+pub said_whole : {B H : Type 0} (V : Voice H) (a b : At B H) (before ring : List ℕ) (calls : ℕ) (s s' : Seen) (old new : Intake) (held left : List ℕ)
+    → CompletesTo V a old held b new left ring → IsFilledAt a before → RestsAt a old held before calls → s'.over ≡ s.over
+    → SaidShown a b before ring calls s s'
+said_whole {B} {H} V at.Reading b before ring calls s s' old new held left e f rests over = absurd f
+said_whole {B} {H} V at.Asked b before ring calls s s' old new held left e f rests over = absurd f
+said_whole {B} {H} V (at.Refused fault) b before ring calls s s' old new held left e f rests over = absurd f
+said_whole {B} {H} V (at.Answering framer) b before ring calls s s' old new held left e f rests over =
+    subst (λ (d : At B H). SaidShown (at.Answering framer) d before ring calls s s') (sym e.0)
+    (subst (λ (z : List ℕ). SaidShown {B = B} {H = H} (at.Answering framer) (at.Answering framer) before z calls s s') (sym e.2)
     (record {
-      replied = refl;
+      replied = (refl, refl);
       why = tt;
       ends = over;
       less = λ x. more (filled_ring {B = B} {H = H} (at.Answering framer) before f);
-    })
+    }))
   where
     more : 0 < length before → length ([] ++ framer.rest.bytes) < length (before ++ framer.rest.bytes)
     more some = omega (arith, some, length-append before framer.rest.bytes)
-said_whole {B} {H} (at.Writing true) b before calls s s' old new held left e f rests over =
-    fed_behind true b before calls s s' e.0 new held left e.2 rests.1.1.0 over
-said_whole {B} {H} (at.Writing false) b before calls s s' old new held left e f rests over =
-    subst (λ (d : At B H). SaidShown (at.Writing false) d before [] calls s s') (sym e.0)
-    (said_over (at.Writing false) why.Closed before [] calls s s' tt over)
-said_whole {B} {H} at.Refusing b before calls s s' old new held left e f rests over =
-    subst (λ (d : At B H). SaidShown at.Refusing d before [] calls s s') (sym e.0)
-    (said_over at.Refusing why.Closed before [] calls s s' tt over)
-said_whole {B} {H} (at.Over ended) b before calls s s' old new held left e f rests over = absurd f
+said_whole {B} {H} V (at.Writing true) b before ring calls s s' old new held left e f rests over =
+    fed_behind true b before ring calls s s' e.0 new held left e.2 f rests.1.1.0 over
+said_whole {B} {H} V (at.Writing false) b before ring calls s s' old new held left e f rests over =
+    subst (λ (d : At B H). SaidShown (at.Writing false) d before ring calls s s') (sym e.0)
+    (said_over (at.Writing false) why.Closed before ring calls s s' f tt over)
+said_whole {B} {H} V (at.Handing h) b before ring calls s s' old new held left e f rests over =
+    told_behind V h b before ring held left calls s s' e f rests.1 over
+said_whole {B} {H} V at.Refusing b before ring calls s s' old new held left e f rests over =
+    subst (λ (d : At B H). SaidShown at.Refusing d before ring calls s s') (sym e.0)
+    (said_over at.Refusing why.Closed before ring calls s s' f tt over)
+said_whole {B} {H} V (at.Taken h) b before ring calls s s' old new held left e f rests over = absurd f
+said_whole {B} {H} V (at.Speaking h) b before ring calls s s' old new held left e f rests over =
+    subst (λ (d : At B H). SaidShown (at.Speaking h) d before ring calls s s') (sym e.0)
+    (subst (λ (z : List ℕ). SaidShown {B = B} {H = H} (at.Speaking h) (at.Taken h) before z calls s s') (sym e.2)
+    (record { replied = refl; why = tt; ends = over; less = λ x. f }))
+said_whole {B} {H} V at.Parting b before ring calls s s' old new held left e f rests over =
+    subst (λ (d : At B H). SaidShown at.Parting d before ring calls s s') (sym e.0)
+    (said_over at.Parting why.Hijacked before ring calls s s' f tt over)
+said_whole {B} {H} V (at.Over ended) b before ring calls s s' old new held left e f rests over = absurd f
 
 -- the link took nothing yet
 pub waiting_shown : {B H : Type 0} (a : At B H) (ring : List ℕ) (calls : ℕ) (s s' : Seen) → IsFilledAt a ring → s'.over ≡ s.over
-    → SaysOn (state_at a) (replied_at a calls) (replied_at a calls) × IsOfFlush (why_at a) × TurnEnds (why_at a) s s'
-waiting_shown {B} {H} at.Reading ring calls s s' f over = absurd f
-waiting_shown {B} {H} at.Asked ring calls s s' f over = absurd f
-waiting_shown {B} {H} (at.Refused fault) ring calls s s' f over = absurd f
-waiting_shown {B} {H} (at.Answering framer) ring calls s s' f over = (refl, tt, over)
-waiting_shown {B} {H} (at.Writing keeps) ring calls s s' f over = (refl, tt, over)
-waiting_shown {B} {H} at.Refusing ring calls s s' f over = (refl, tt, over)
-waiting_shown {B} {H} (at.Over ended) ring calls s s' f over = absurd f
+    → SaysOn (state_at a) (state_at a) (replied_at a calls) (replied_at a calls) × IsOfFlush (why_at a) × TurnEnds (why_at a) s s'
+waiting_shown {B} {H} at.Reading ring calls s s' filled over = absurd filled
+waiting_shown {B} {H} at.Asked ring calls s s' filled over = absurd filled
+waiting_shown {B} {H} (at.Refused fault) ring calls s s' filled over = absurd filled
+waiting_shown {B} {H} (at.Answering f) ring calls s s' filled over = ((refl, refl), tt, over)
+waiting_shown {B} {H} (at.Writing keeps) ring calls s s' filled over = ((refl, refl), tt, over)
+waiting_shown {B} {H} (at.Handing h) ring calls s s' filled over = ((refl, refl), tt, over)
+waiting_shown {B} {H} at.Refusing ring calls s s' filled over = ((refl, refl), tt, over)
+waiting_shown {B} {H} (at.Taken h) ring calls s s' filled over = absurd filled
+waiting_shown {B} {H} (at.Speaking h) ring calls s s' filled over = (refl, tt, over)
+waiting_shown {B} {H} at.Parting ring calls s s' filled over = (refl, tt, over)
+waiting_shown {B} {H} (at.Over ended) ring calls s s' filled over = absurd filled

@@ -1,17 +1,18 @@
 -- What stands while something is said.
-use Rattle.std.proofs.Common.{◌≡◌, ℕ, ◌+◌, ◌<◌, Bool, List, [], ◌++◌, length, sym, ap, subst, ◌∙◌, append_assoc, arith}
+use Rattle.std.proofs.Common.{◌≡◌, ℕ, ◌+◌, ◌<◌, Bool, false, List, [], ◌++◌, length, sym, ap, subst, ◌∙◌, append_assoc, arith}
 use Rattle.std.proofs.lemmas.List.{append-nil}
 use Rattle.rack_outside.specs.Link.{Seen, IsOneWrite}
 use Rattle.rack_outside.specs.Told.{Rose, appended}
 use Rattle.rack_outside.proofs.CallerLemmas.{rose_some}
 use Rattle.talk_core.specs.declared.ended.Why.TheVariants as why
-use Rattle.talk_core.specs.Stands.{Word, Stands, replies, refuses, asked_by, IsPlain}
+use Rattle.talk_core.specs.Ended.{IsTimed}
+use Rattle.talk_core.specs.Stands.{Word, Stands, replies, refuses, hands_over, asked_by}
 use Rattle.talk_core.specs.Tail.{Voice}
 use Rattle.talk_core.specs.Teller.{Teller}
 use Rattle.talk_core.proofs.CallerLemmas.{lacks_some, stands_sent, shows_sent, shows_unsent}
 use Rattle.conn_core.specs.declared.place.At.{At}
 use Rattle.conn_core.specs.declared.place.At.TheVariants as at
-use Rattle.conn_core.specs.Holds.{Kept, past, HoldsAt, StandsAt}
+use Rattle.conn_core.specs.Holds.{Kept, past, Handed, HoldsAt, StandsAt}
 use Rattle.conn_core.specs.Place.{IsSaying}
 use Rattle.conn_core.specs.Plain.{EndsPlainly}
 
@@ -23,13 +24,26 @@ with_ring c ring = record { intake = c.intake; held = c.held; ring = ring; calls
 pub record Saying {B H : Type 0} (a : At B H) (V : Voice H) (T : Teller H) (over : Bool) (given sent : List ℕ) (c : Kept) : Type 0 where
   pub k : ℕ
   pub word : Word H
-  pub plain : IsPlain word
+  pub untimed : IsTimed word false
   pub rest : List ℕ
   pub tail : List ℕ
   pub calls_is : c.calls ≡ k + length (asked_by word)
   pub stands : Stands V T over given sent k word rest (c.ring ++ tail)
   pub back : (s : Seen) (sent' ring' : List ℕ) → Stands V T over given sent' k word rest (ring' ++ tail)
       → HoldsAt a V T s over given sent' (with_ring c ring')
+
+-- what was said to a hijack, with more sent
+abbrev handed_back : {H : Type 0} (V : Voice H) (T : Teller H) (over : Bool) (given sent sent' : List ℕ) (c : Kept) (ring' : List ℕ)
+    (q : Handed V T over given sent c) → Stands V T over given sent' q.k (hands_over q.request q.first) q.rest (ring' ++ [])
+    → Handed V T over given sent' (with_ring c ring')
+handed_back {H} V T over given sent sent' c ring' q t = record {
+  k = q.k;
+  request = q.request;
+  first = q.first;
+  rest = q.rest;
+  count = q.count;
+  stands = subst (λ (y : List ℕ). Stands V T over given sent' q.k (hands_over q.request q.first) q.rest y) (append-nil ring') t;
+}
 
 pub saying : {B H : Type 0} (a : At B H) (V : Voice H) (T : Teller H) (s : Seen) (over : Bool) (given sent : List ℕ) (c : Kept) → IsSaying a
     → HoldsAt a V T s over given sent c → Saying a V T over given sent c
@@ -41,37 +55,76 @@ saying {B} {H} (at.Answering framer) V T s over given sent c x h =
     record {
       k = h.0;
       word = replies h.1;
-      plain = tt;
+      untimed = tt;
       rest = c.held;
       tail = framer.rest.bytes;
       calls_is = n;
       stands = h.4.stands;
-      back = λ s' sent' ring' t. (h.0, h.1, h.2, h.3, record { count = h.4.count; stands = t });
+      back = λ s' sent' ring' t. (h.0, h.1, h.2, h.3, record { count = h.4.count; live = h.4.live; stands = t });
     }
 saying {B} {H} (at.Writing keeps) V T s over given sent c x h =
     let n : c.calls ≡ h.0 + 1 = omega (arith, h.3.count) in
     record {
       k = h.0;
       word = replies h.1;
-      plain = tt;
+      untimed = tt;
       rest = c.held;
       tail = [];
       calls_is = n;
       stands = h.3.stands;
-      back = λ s' sent' ring' t. (h.0, h.1, h.2, record { count = h.3.count; stands = t });
+      back = λ s' sent' ring' t. (h.0, h.1, h.2, record { count = h.3.count; live = h.3.live; stands = t });
+    }
+saying {B} {H} (at.Handing who) V T s over given sent c x h =
+    let n : c.calls ≡ h.0 + 1 = omega (arith, h.4.count) in
+    record {
+      k = h.0;
+      word = replies h.1;
+      untimed = tt;
+      rest = c.held;
+      tail = [];
+      calls_is = n;
+      stands = h.4.stands;
+      back = λ s' sent' ring' t. (h.0, h.1, h.2, h.3, record { count = h.4.count; live = h.4.live; stands = t });
     }
 saying {B} {H} at.Refusing V T s over given sent c x h =
     let n : c.calls ≡ c.calls + 0 = omega arith in
     record {
       k = c.calls;
       word = refuses h.0;
-      plain = tt;
+      untimed = tt;
       rest = h.1;
       tail = [];
       calls_is = n;
       stands = subst (λ (y : List ℕ). Stands V T over given sent c.calls (refuses h.0) h.1 y) (sym (append-nil c.ring)) h.2;
       back = λ s' sent' ring' t.
           (h.0, h.1, subst (λ (y : List ℕ). Stands V T over given sent' c.calls (refuses h.0) h.1 y) (append-nil ring') t);
+    }
+saying {B} {H} (at.Taken who) V T s over given sent c x h = absurd x
+saying {B} {H} (at.Speaking who) V T s over given sent c x h =
+    let q : Handed V T over given sent c = h.handed in
+    let n : c.calls ≡ q.k + 1 = omega (arith, q.count) in
+    record {
+      k = q.k;
+      word = hands_over q.request q.first;
+      untimed = tt;
+      rest = q.rest;
+      tail = [];
+      calls_is = n;
+      stands = subst (λ (y : List ℕ). Stands V T over given sent q.k (hands_over q.request q.first) q.rest y) (sym (append-nil c.ring)) q.stands;
+      back = λ s' sent' ring' t. record { handed = handed_back V T over given sent sent' c ring' q t; live = h.live; goes = h.goes; behind = h.behind };
+    }
+saying {B} {H} at.Parting V T s over given sent c x h =
+    let q : Handed V T over given sent c = h.handed in
+    let n : c.calls ≡ q.k + 1 = omega (arith, q.count) in
+    record {
+      k = q.k;
+      word = hands_over q.request q.first;
+      untimed = tt;
+      rest = q.rest;
+      tail = [];
+      calls_is = n;
+      stands = subst (λ (y : List ℕ). Stands V T over given sent q.k (hands_over q.request q.first) q.rest y) (sym (append-nil c.ring)) q.stands;
+      back = λ s' sent' ring' t. record { handed = handed_back V T over given sent sent' c ring' q t; ended = h.ended };
     }
 saying {B} {H} (at.Over ended) V T s over given sent c x h = absurd x
 
@@ -119,7 +172,7 @@ module _ {B H : Type 0} (a : At B H) (V : Voice H) (T : Teller H) (old new : See
           rose_some old.failed_writes new.failed_writes rose,
           (
             c.ring ++ q.tail,
-            record { word = q.word; plain = q.plain; partly = record { k = q.k; rest = q.rest; calls_is = q.calls_is; stands = q.stands; closes = tt } },
+            record { word = q.word; untimed = q.untimed; partly = record { k = q.k; rest = q.rest; calls_is = q.calls_is; stands = q.stands; closes = tt } },
             lacks_some c.ring q.tail some,
           ),
         );
@@ -136,5 +189,5 @@ module _ {B H : Type 0} (a : At B H) (V : Voice H) (T : Teller H) (old new : See
         over = h.over;
         shows = shows_unsent old new peer h.given h.sent h.over one sent_is h.shows;
         at = subst (λ (k : ℕ). EndsPlainly why.NoMemory V T (past new k h.given h.sent h.over)) (sym n)
-            (c.ring ++ q.tail, record { word = q.word; plain = q.plain; partly = record { k = q.k; rest = q.rest; calls_is = q.calls_is; stands = q.stands; closes = tt } });
+            (c.ring ++ q.tail, record { word = q.word; untimed = q.untimed; partly = record { k = q.k; rest = q.rest; calls_is = q.calls_is; stands = q.stands; closes = tt } });
       }

@@ -1,34 +1,36 @@
 -- What is said behind a fill.
-use Rattle.std.proofs.Common.{◌≡◌, ℕ, ◌<◌, ◌≤◌, List, [], length, take, drop, refl, sym, ap, subst, ◌∙◌, arith, Option, Some}
+use Rattle.std.proofs.Common.{◌≡◌, ℕ, ◌+◌, ◌<◌, ◌≤◌, Bool, true, false, List, [], length, take, drop, refl, sym, ap, subst, ◌∙◌, arith, Option, inl, inr}
 use Rattle.rack_outside.specs.Link.{Seen, Writes, IsOneWrite, WritesAhead, next_place}
 use Rattle.rack_outside.specs.declared.link.LinkWrite.{LinkWrite}
 use Rattle.rack_outside.specs.declared.link.LinkWrite.TheVariants as write
+use Rattle.reply_framing.specs.declared.types.After.{After}
+use Rattle.reply_framing.specs.declared.types.After.TheVariants.{Keep, Close, Hijack}
 use Rattle.talk_core.specs.Counts.{counted_by}
 use Rattle.talk_core.specs.declared.ended.Why.{Why}
-use Rattle.talk_core.specs.declared.ended.Why.TheVariants as why
 use Rattle.conn_core.specs.declared.left.Said.{Said}
 use Rattle.conn_core.specs.declared.left.Said.TheVariants as said
 use Rattle.conn_core.specs.declared.state.State.{State}
 use Rattle.conn_core.specs.declared.state.State.TheVariants as state
 use Rattle.conn_core.specs.Calls.{TurnEnds, IsOfFlush}
-use Rattle.conn_core.specs.Inner.{SaysOn, SaidLeaves, Says, SaysOnce}
-use Rattle.conn_core.specs.Moves.{ring_room, SameShown, BehindWrite, TookTo, WritesOnce}
+use Rattle.conn_core.specs.Inner.{SaysOn, SaidLeaves, Says, SaysOnce, Fills}
+use Rattle.conn_core.specs.Moves.{ring_room, SameShown, WantsMemory, StillOwes, KeptTo, SentTo, BehindWrite, WritesOnce}
 use Rattle.conn_core.specs.Shown.{Shown}
 use Rattle.conn_core.proofs.ShownLemmas.{appended_nil}
 
-leaves_behind : (result : Said) (old mid new : Shown) (s s' : Seen) → mid.owed ≡ old.owed → SaidLeaves result mid new s s' → SaidLeaves result old new s s'
-leaves_behind said.Unwritten old mid new s s' owed l = l
-leaves_behind said.Wrote old mid new s s' owed l = λ is. subst (λ (x : List ℕ). length new.owed < length x) owed (l is)
-leaves_behind said.Waits old mid new s s' owed l = (l.0, l.1, subst (λ (x : List ℕ). length new.owed ≤ length x) owed l.2)
+leaves_behind : (result : Said) (old mid new : Shown) (s s' : Seen) → Fills old mid → SaidLeaves result mid new s s' → SaidLeaves result old new s s'
+leaves_behind said.Unwritten old mid new s s' f l = l
+leaves_behind said.Wrote old mid new s s' f l =
+    λ is. subst (λ (x : List ℕ). length new.owed < length x) f.owed (l (is ∙ sym f.state))
+leaves_behind said.Waits old mid new s s' f l =
+    (l.0 ∙ f.state, l.1, subst (λ (x : List ℕ). length new.owed ≤ length x) f.owed l.2, l.3)
 
 -- a fill changes nothing of what is shown
-pub says_behind : (result : Said) (old mid new : Shown) (s s' : Seen) → SameShown old mid → mid.calls ≡ old.calls → mid.replied ≡ old.replied
-    → mid.owed ≡ old.owed → Says result mid new s s' → Says result old new s s'
-says_behind result old mid new s s' same calls replied owed h = record {
+pub says_behind : (result : Said) (old mid new : Shown) (s s' : Seen) → Fills old mid → Says result mid new s s' → Says result old new s s'
+says_behind result old mid new s s' f h = record {
   moved = record {
-    peer = h.moved.peer ∙ same.peer;
-    local = h.moved.local ∙ same.local;
-    lives = h.moved.lives ∙ same.lives;
+    peer = h.moved.peer ∙ f.same.peer;
+    local = h.moved.local ∙ f.same.local;
+    lives = h.moved.lives ∙ f.same.lives;
     tag = h.moved.tag;
     link_peer = h.moved.link_peer;
     borrows = h.moved.borrows;
@@ -40,25 +42,25 @@ says_behind result old mid new s s' same calls replied owed h = record {
     writes_are = h.moved.writes_are;
     came = h.moved.came;
     given = h.moved.given;
-    taken = h.moved.taken ∙ ap (λ (t : ℕ). counted_by (length h.moved.came) t) same.taken;
+    taken = h.moved.taken ∙ ap (λ (t : ℕ). counted_by (length h.moved.came) t) f.same.taken;
   };
   came = h.came;
   given = h.given;
-  calls = h.calls ∙ calls;
-  replied = subst (λ (n : ℕ). SaysOn new.state n new.replied) replied h.replied;
+  calls = h.calls ∙ f.calls;
+  replied = subst (λ (x : State). SaysOn x new.state old.replied new.replied) f.state
+      (subst (λ (n : ℕ). SaysOn mid.state new.state n new.replied) f.replied h.replied);
   why = h.why;
   ends = h.ends;
-  leaves = leaves_behind result old mid new s s' owed h.leaves;
+  leaves = leaves_behind result old mid new s s' f h.leaves;
 }
 
 -- memory was refused before a write
-pub unwritten : (old new : Shown) (s : Seen) → SameShown old new → new.calls ≡ old.calls → new.state ≡ state.Over → new.why ≡ Some why.NoMemory
-    → Says said.Unwritten old new s s
-unwritten old new s same calls over why_is = record {
+pub unwritten : (old new : Shown) (s : Seen) → WantsMemory old new → Says said.Unwritten old new s s
+unwritten old new s w = record {
   moved = record {
-    peer = same.peer;
-    local = same.local;
-    lives = same.lives;
+    peer = w.same.peer;
+    local = w.same.local;
+    lives = w.same.lives;
     tag = refl;
     link_peer = refl;
     borrows = refl;
@@ -70,15 +72,15 @@ unwritten old new s same calls over why_is = record {
     writes_are = refl;
     came = [];
     given = sym (appended_nil s.given);
-    taken = same.taken;
+    taken = w.same.taken;
   };
   came = refl;
   given = refl;
-  calls = calls;
-  replied = subst (λ (x : State). SaysOn x old.replied new.replied) (sym over) tt;
-  why = subst IsOfFlush (sym why_is) tt;
-  ends = subst (λ (w : Option Why). TurnEnds w s s) (sym why_is) refl;
-  leaves = over;
+  calls = w.calls;
+  replied = subst (λ (x : State). SaysOn old.state x old.replied new.replied) (sym w.state) tt;
+  why = subst IsOfFlush (sym w.why) tt;
+  ends = subst (λ (x : Option Why). TurnEnds x s s) (sym w.why) refl;
+  leaves = w.state;
 }
 
 same_then : (old mid new : Shown) → SameShown old mid → SameShown mid new → SameShown old new
@@ -103,36 +105,72 @@ wrote_once a old new s s' ring front writes one ahead same calls behind = record
 }
 
 -- nor of how a write went
-behind_same : (a : LinkWrite) (old mid new : Shown) → mid.replied ≡ old.replied → mid.owed ≡ old.owed → BehindWrite a mid new → BehindWrite a old new
-behind_same (write.Took n) old mid new replied owed h = (
-  h.0 ∙ ap (λ (x : List ℕ). drop n x) owed,
-  subst (λ (k : ℕ). TookTo new.state new.why k new.replied) replied h.1,
-)
-behind_same write.NotYet old mid new replied owed h = (h.0 ∙ owed, h.1, h.2, h.3 ∙ replied)
-behind_same write.Failed old mid new replied owed h = h
-behind_same write.NoMemory old mid new replied owed h = h
-
-write_behind : (a : LinkWrite) (old mid new : Shown) (s s' : Seen) → SameShown old mid → mid.calls ≡ old.calls → mid.replied ≡ old.replied
-    → mid.owed ≡ old.owed → WritesOnce a mid new s s' → WritesOnce a old new s s'
-write_behind a old mid new s s' same calls replied owed h = record {
-  offers = subst (λ (x : List ℕ). Writes a (take ring_room x) s s') owed h.offers;
-  one = h.one;
-  ahead = subst (λ (x : List ℕ). WritesAhead a (take ring_room x) s.ahead (next_place s) s'.ahead) owed h.ahead;
-  same = same_then old mid new same h.same;
-  calls = h.calls ∙ calls;
-  behind = behind_same a old mid new replied owed h.behind;
+still_behind : (old mid new : Shown) (rest left : List ℕ) → rest ≡ left → Fills old mid → StillOwes rest mid new → StillOwes left old new
+still_behind old mid new rest left e f h = record {
+  some = λ none. h.some (e ∙ none);
+  owed = h.owed ∙ e;
+  state = h.state ∙ f.state;
+  why = h.why;
+  replied = h.replied ∙ f.replied;
+  held = h.held ∙ f.held;
+  after = h.after ∙ f.after;
+  sure = λ sure. h.sure (f.sure sure);
 }
 
-pub once_behind : (result : Said) (old mid new : Shown) (s s' : Seen) → SameShown old mid → mid.calls ≡ old.calls → mid.replied ≡ old.replied
-    → mid.owed ≡ old.owed → SaysOnce result mid new s s' → SaysOnce result old new s s'
-once_behind said.Unwritten old mid new s s' same calls replied owed h = (
-  h.0,
-  record { same = same_then old mid new same h.1.same; calls = h.1.calls ∙ calls; state = h.1.state; why = h.1.why },
-)
-once_behind said.Wrote old mid new s s' same calls replied owed h = (h.0, h.1, write_behind h.0 old mid new s s' same calls replied owed h.2)
-once_behind said.Waits old mid new s s' same calls replied owed h = write_behind write.NotYet old mid new s s' same calls replied owed h
+kept_behind : (x : State) (w : Option Why) (old mid new : Shown) → Fills old mid → KeptTo x w mid new → KeptTo x w old new
+kept_behind state.Reading w old mid new f h = (h.0, h.1 ∙ ap (λ (n : ℕ). n + 1) f.replied, h.2)
+kept_behind state.Ready w old mid new f h = (h.0, h.1 ∙ ap (λ (n : ℕ). n + 1) f.replied, h.2)
+kept_behind state.Answering w old mid new f h = absurd h
+kept_behind state.Hijacked w old mid new f h = absurd h
+kept_behind state.Over w old mid new f h = (h.0, λ none. h.1 (f.held ∙ none))
 
--- memory was refused before it
-pub once_unwritten : (old new : Shown) (s : Seen) → SameShown old new → new.calls ≡ old.calls → new.state ≡ state.Over → new.why ≡ Some why.NoMemory
-    → SaysOnce said.Unwritten old new s s
-once_unwritten old new s same calls over why_is = (refl, record { same = same; calls = calls; state = over; why = why_is })
+sent_behind : (x : State) (a : After) (old mid new : Shown) → Fills old mid → SentTo x a mid new → SentTo x a old new
+sent_behind state.Answering Keep old mid new f h = kept_behind new.state new.why old mid new f h
+sent_behind state.Answering Close old mid new f h = h
+sent_behind state.Answering Hijack old mid new f h = (h.0, λ held. h.1 held ∙ ap (λ (n : ℕ). n + 1) f.replied)
+sent_behind state.Hijacked Keep old mid new f h = (h.0, h.1, h.2 ∙ f.replied, h.3)
+sent_behind state.Hijacked Close old mid new f h = h
+sent_behind state.Hijacked Hijack old mid new f h = absurd h
+sent_behind state.Reading a old mid new f h = absurd h
+sent_behind state.Ready a old mid new f h = absurd h
+sent_behind state.Over a old mid new f h = absurd h
+
+behind_same : (a : LinkWrite) (old mid new : Shown) → Fills old mid → BehindWrite a mid new → BehindWrite a old new
+behind_same (write.Took n) old mid new f h =
+    let left : drop n mid.owed ≡ drop n old.owed = ap (λ (x : List ℕ). drop n x) f.owed in
+    elim h [
+      | inl still ↦ inl (still_behind old mid new (drop n mid.owed) (drop n old.owed) left f still)
+      | inr sent ↦ inr (
+        sym left ∙ sent.0,
+        subst (λ (x : State). SentTo x old.after old new) f.state
+            (subst (λ (x : After). SentTo mid.state x old new) f.after (sent_behind mid.state mid.after old mid new f sent.1)),
+      )
+    ]
+behind_same write.NotYet old mid new f h = still_behind old mid new mid.owed old.owed f.owed f h
+behind_same write.Failed old mid new f h = h
+behind_same write.NoMemory old mid new f h = h
+
+write_behind : (a : LinkWrite) (old mid new : Shown) (s s' : Seen) → Fills old mid → WritesOnce a mid new s s' → WritesOnce a old new s s'
+write_behind a old mid new s s' f h = record {
+  offers = subst (λ (x : List ℕ). Writes a (take ring_room x) s s') f.owed h.offers;
+  one = h.one;
+  ahead = subst (λ (x : List ℕ). WritesAhead a (take ring_room x) s.ahead (next_place s) s'.ahead) f.owed h.ahead;
+  same = same_then old mid new f.same h.same;
+  calls = h.calls ∙ f.calls;
+  behind = behind_same a old mid new f h.behind;
+}
+
+-- a reply for which memory is wanted behind the fill wanted it before
+unsure : (old new : Bool) → (old ≡ true → new ≡ true) → new ≡ false → old ≡ false
+unsure true new h e = let t : new ≡ true = h refl in cc
+unsure false new h e = refl
+
+pub once_behind : (result : Said) (old mid new : Shown) (s s' : Seen) → Fills old mid → SaysOnce result mid new s s' → SaysOnce result old new s s'
+once_behind said.Unwritten old mid new s s' f h = (
+  h.0,
+  sym f.state ∙ h.1,
+  unsure old.sure mid.sure f.sure h.2,
+  record { same = same_then old mid new f.same h.3.same; calls = h.3.calls ∙ f.calls; state = h.3.state; why = h.3.why },
+)
+once_behind said.Wrote old mid new s s' f h = (h.0, h.1, write_behind h.0 old mid new s s' f h.2)
+once_behind said.Waits old mid new s s' f h = write_behind write.NotYet old mid new s s' f h

@@ -1,15 +1,18 @@
 -- What a connection shows behind a read.
-use Rattle.std.proofs.Common.{◌≡◌, ℕ, zero, suc, ◌+◌, ◌-◌, ◌^◌, ◌<◌, ◌≤◌, min, List, [], length, refl, sym, ap, ◌∙◌, arith, Option, None, Some}
+use Rattle.std.proofs.Common.{◌≡◌, ℕ, zero, suc, ◌+◌, ◌-◌, ◌^◌, ◌<◌, ◌≤◌, min, List, [], length, refl, sym, ap, subst, ◌∙◌, arith, Option, None, Some}
 use Rattle.std.proofs.lemmas.List.{append-nil}
 use Rattle.rack_outside.specs.Link.{Seen, IsOneRead}
 use Rattle.rack_outside.specs.Told.{counted, appended}
+use Rattle.rack_outside.specs.declared.link.LinkRead.{LinkRead}
 use Rattle.message_framing.specs.declared.intake.Intake.{Intake}
 use Rattle.talk_core.specs.Counts.{counted_by}
 use Rattle.talk_core.specs.declared.ended.Why.TheVariants as why
 use Rattle.conn_core.specs.declared.place.At.{At}
 use Rattle.conn_core.specs.declared.place.At.TheVariants as at
+use Rattle.conn_core.specs.declared.state.State.{State}
 use Rattle.conn_core.specs.Calls.{TurnEnds, IsOfFeed}
 use Rattle.conn_core.specs.Inner.{IsFed}
+use Rattle.conn_core.specs.Moves.{OffersRoom, size_of, BehindRead, ReadsOnce}
 use Rattle.conn_core.specs.Place.{state_at}
 use Rattle.conn_core.specs.Shown.{Shown, Moved, replied_at, why_at}
 use Rattle.conn_core.specs.Steps.{FeedsHeld}
@@ -65,7 +68,11 @@ fed_shown {B} {H} at.Asked calls s s' old new held left over f = record { replie
 fed_shown {B} {H} (at.Refused fault) calls s s' old new held left over f = record { replied = refl; why = tt; ends = over; state = tt }
 fed_shown {B} {H} (at.Answering framer) calls s s' old new held left over f = absurd f
 fed_shown {B} {H} (at.Writing keeps) calls s s' old new held left over f = absurd f
+fed_shown {B} {H} (at.Handing h) calls s s' old new held left over f = absurd f
 fed_shown {B} {H} at.Refusing calls s s' old new held left over f = absurd f
+fed_shown {B} {H} (at.Taken h) calls s s' old new held left over f = absurd f
+fed_shown {B} {H} (at.Speaking h) calls s s' old new held left over f = absurd f
+fed_shown {B} {H} at.Parting calls s s' old new held left over f = absurd f
 fed_shown {B} {H} (at.Over why.Closed) calls s s' old new held left over f = absurd f
 fed_shown {B} {H} (at.Over why.PeerEnd) calls s s' old new held left over f = absurd f
 fed_shown {B} {H} (at.Over (why.Idle by)) calls s s' old new held left over f = absurd f
@@ -83,3 +90,19 @@ abbrev pub nothing_came : (old new : Shown) (s s' : Seen) → new.peer ≡ old.p
     → IsOneRead s s' → s'.given ≡ s.given → new.taken ≡ old.taken → Moved old new s s' 1 0
 nothing_came old new s s' peer local lives one given taken =
     moved_by_read old new s s' [] peer local lives one (given ∙ sym (appended_nil s.given)) taken
+
+-- one read, of the same connection in this state
+abbrev pub read_once : (a : LinkRead) (x : State) (o n : Shown) (s u : Seen) → OffersRoom a s u → IsOneRead s u → n.peer ≡ o.peer → n.local ≡ o.local
+    → n.lives ≡ o.lives → n.calls ≡ o.calls → n.replied ≡ o.replied → n.taken ≡ counted_by (size_of a) o.taken → o.state ≡ x → BehindRead x a o n
+    → ReadsOnce a o n s u
+read_once a x o n s u offers one peer local lives calls replied taken is behind = record {
+  offers = offers;
+  one = one;
+  peer = peer;
+  local = local;
+  lives = lives;
+  calls = calls;
+  replied = replied;
+  taken = taken;
+  behind = subst (λ (y : State). BehindRead y a o n) (sym is) behind;
+}

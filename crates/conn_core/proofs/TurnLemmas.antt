@@ -1,5 +1,5 @@
--- What the steps of a turn leave, and what a turn and a flush did so far.
-use Rattle.std.proofs.Common.{◌≡◌, ◌≢◌, ◌↔◌, ℕ, ◌+◌, ◌-◌, ◌<◌, ◌≤◌, Bool, true, false, IsTrue, List, [], ◌∷◌, ◌++◌, length, refl, sym, ap, subst, ◌∙◌, arith, Option, None, ◌⊎◌, inl, inr, ltb}
+-- What the steps of a turn leave, and what a turn did so far.
+use Rattle.std.proofs.Common.{◌≡◌, ◌≢◌, ◌↔◌, ℕ, ◌+◌, ◌-◌, ◌<◌, ◌≤◌, Bool, true, false, IsTrue, List, [], ◌∷◌, length, refl, sym, ap, subst, ◌∙◌, arith, Option, None, ◌⊎◌, inl, inr, ltb}
 use Rattle.std.proofs.lemmas.Bool.Decides.{Decides-ltb}
 use Rattle.rack_outside.specs.Link.{Seen}
 use Rattle.rack_outside.specs.Told.{Rose}
@@ -18,7 +18,6 @@ use Rattle.talk_core.specs.declared.ended.Why.{Why}
 use Rattle.talk_core.specs.Teller.{Stack, Teller, ask_of, is_last}
 use Rattle.conn_core.specs.declared.left.Left.{Left}
 use Rattle.conn_core.specs.declared.left.Said.{Said}
-use Rattle.conn_core.specs.declared.left.Said.TheVariants as said
 use Rattle.conn_core.specs.declared.left.Step.{Step}
 use Rattle.conn_core.specs.declared.left.Step.TheVariants as step
 use Rattle.conn_core.specs.declared.place.At.{At}
@@ -27,15 +26,15 @@ use Rattle.conn_core.specs.declared.state.Next.{Next}
 use Rattle.conn_core.specs.declared.state.Next.TheVariants as next
 use Rattle.conn_core.specs.declared.state.State.{State}
 use Rattle.conn_core.specs.declared.state.State.TheVariants as state
-use Rattle.conn_core.specs.Answers.{TurnedSo, FlushedSo}
-use Rattle.conn_core.specs.Calls.{TurnEnds, RestsBehind, IsSpent, TurnTells, Turns, FlushTells, Flushes, IsOfFlush}
-use Rattle.conn_core.specs.Inner.{IsFed, ReadLeaves, ReadsBy, TellsBy, writes_of, SaysOn, SaidLeaves, Says, Steps, IsSpentLeft, StepLeaves}
-use Rattle.conn_core.specs.Moves.{Starts}
-use Rattle.conn_core.specs.Place.{IsSaying, state_at}
+use Rattle.conn_core.specs.Answers.{TurnedSo}
+use Rattle.conn_core.specs.Calls.{TurnEnds, RestsBehind, IsSpent, IsHandedOver, TurnTells, Turns}
+use Rattle.conn_core.specs.Inner.{IsFed, ReadLeaves, ReadsBy, TakesUp, TellsBy, writes_of, HijackedOn, SaysOn, Says, Steps, IsSpentLeft, StepLeaves}
+use Rattle.conn_core.specs.Moves.{SameShown, StartsAs, IsOwing}
+use Rattle.conn_core.specs.Place.{IsSaying, IsHearing, state_at}
 use Rattle.conn_core.specs.Rests.{RestsAt}
 use Rattle.conn_core.specs.Shown.{Shown, Moved, replied_at, why_at}
 use Rattle.conn_core.proofs.ShownLemmas.{counted_sum}
-use Rattle.conn_core.proofs.MovingLemmas.{full, TurnMade, FlushMade}
+use Rattle.conn_core.proofs.MovingLemmas.{full, TurnMade}
 use Rattle.conn_core.proofs.MovedLemmas.{counted_lists, moved_same, moved_by, moved_then, ends_then}
 
 -- a place that isn't Over names no why
@@ -45,32 +44,35 @@ no_why {B} {H} at.Asked h = refl
 no_why {B} {H} (at.Refused f) h = refl
 no_why {B} {H} (at.Answering f) h = refl
 no_why {B} {H} (at.Writing keeps) h = refl
+no_why {B} {H} (at.Handing x) h = refl
 no_why {B} {H} at.Refusing h = refl
+no_why {B} {H} (at.Taken x) h = refl
+no_why {B} {H} (at.Speaking x) h = refl
+no_why {B} {H} at.Parting h = refl
 no_why {B} {H} (at.Over w) h = absurd (h refl)
 
 pub no_why_at : {B H : Type 0} (a : At B H) (s : State) → state_at a ≡ s → s ≢ state.Over → why_at a ≡ None
 no_why_at {B} {H} a s e h = no_why a (λ over. h (sym e ∙ over))
 
-pub saying_state : {B H : Type 0} (a : At B H) → IsSaying a → state_at a ≡ state.Answering
-saying_state {B} {H} at.Reading h = absurd h
-saying_state {B} {H} at.Asked h = absurd h
-saying_state {B} {H} (at.Refused f) h = absurd h
-saying_state {B} {H} (at.Answering f) h = refl
-saying_state {B} {H} (at.Writing keeps) h = refl
-saying_state {B} {H} at.Refusing h = refl
-saying_state {B} {H} (at.Over w) h = absurd h
+-- so it is where bytes are owed
+saying_live : {B H : Type 0} (a : At B H) → IsSaying a → state_at a ≢ state.Over
+saying_live {B} {H} at.Reading is over = absurd is
+saying_live {B} {H} at.Asked is over = absurd is
+saying_live {B} {H} (at.Refused f) is over = absurd is
+saying_live {B} {H} (at.Answering f) is over = cc
+saying_live {B} {H} (at.Writing keeps) is over = cc
+saying_live {B} {H} (at.Handing h) is over = cc
+saying_live {B} {H} at.Refusing is over = cc
+saying_live {B} {H} (at.Taken h) is over = absurd is
+saying_live {B} {H} (at.Speaking h) is over = cc
+saying_live {B} {H} at.Parting is over = cc
+saying_live {B} {H} (at.Over w) is over = absurd is
 
-pub state_saying : {B H : Type 0} (a : At B H) → state_at a ≡ state.Answering → IsSaying a
-state_saying {B} {H} at.Reading h = cc
-state_saying {B} {H} at.Asked h = cc
-state_saying {B} {H} (at.Refused f) h = cc
-state_saying {B} {H} (at.Answering f) h = tt
-state_saying {B} {H} (at.Writing keeps) h = tt
-state_saying {B} {H} at.Refusing h = tt
-state_saying {B} {H} (at.Over w) h = cc
+pub no_why_saying : {B H : Type 0} (a : At B H) → IsSaying a → why_at a ≡ None
+no_why_saying {B} {H} a is = no_why a (saying_live a is)
 
-pub unsaid : {B H : Type 0} (a : At B H) (b : Bool) → (IsTrue b ↔ IsSaying a) → b ≡ false → state_at a ≢ state.Answering
-unsaid {B} {H} a b is not saying = let t : b ≡ true = is.1 (state_saying a saying) in cc
+pub owing_live : (n : Shown) → IsOwing n → n.state ≢ state.Over
+owing_live n owing over = elim owing [ inl x ↦ cc | inr x ↦ cc ]
 
 -- fewer than 10,000 replies were sent whole where it rests
 abbrev pub IsBelow : State → ℕ → Type 0
@@ -87,7 +89,11 @@ is_below {B} {H} at.Asked intake held ring calls h = h.1.0
 is_below {B} {H} (at.Refused f) intake held ring calls h = h.1
 is_below {B} {H} (at.Answering f) intake held ring calls h = tt
 is_below {B} {H} (at.Writing keeps) intake held ring calls h = tt
+is_below {B} {H} (at.Handing x) intake held ring calls h = tt
 is_below {B} {H} at.Refusing intake held ring calls h = tt
+is_below {B} {H} (at.Taken x) intake held ring calls h = tt
+is_below {B} {H} (at.Speaking x) intake held ring calls h = tt
+is_below {B} {H} at.Parting intake held ring calls h = tt
 is_below {B} {H} (at.Over w) intake held ring calls h = tt
 
 -- behind a read it rests as before it
@@ -111,28 +117,84 @@ nothing_read read.NotYet n came s u e h = h.0
 nothing_read read.End n came s u e h = h.0
 nothing_read read.Failed n came s u e h = h.0
 
--- behind a start it answers, or ended
-starts_rests : (runs k : ℕ) (o n : Shown) → Starts runs o n → k ≤ o.replied → RestsBehind n.state k n.replied
-starts_rests runs k o n h few =
-    elim h.place [
-      | inl p ↦ let within : k ≤ n.replied = omega (arith, p.2, few) in subst (λ (b : State). RestsBehind b k n.replied) (sym p.0) within
-      | inr p ↦ subst (λ (b : State). RestsBehind b k n.replied) (sym p.0) tt
+-- behind a run it answers, or a hijacker has it, or it ended
+starts_rests : (b : State) (w : Option Why) (k : ℕ) (o n : Shown) → StartsAs b w o n → k ≤ o.replied → RestsBehind b k n.replied
+starts_rests state.Reading w k o n h few = absurd h
+starts_rests state.Ready w k o n h few = absurd h
+starts_rests state.Answering w k o n h few = omega (arith, h.1, few)
+starts_rests state.Hijacked w k o n h few = omega (arith, h.1, few)
+starts_rests state.Over w k o n h few = tt
+
+starts_ends : (b : State) (w : Option Why) (o n : Shown) (s : Seen) → StartsAs b w o n → TurnEnds w s s
+starts_ends state.Reading w o n s h = absurd h
+starts_ends state.Ready w o n s h = absurd h
+starts_ends state.Answering w o n s h = subst (λ (x : Option Why). TurnEnds x s s) (sym h.0) refl
+starts_ends state.Hijacked w o n s h = subst (λ (x : Option Why). TurnEnds x s s) (sym h.0) refl
+starts_ends state.Over w o n s h =
+    elim h [
+      | inl e ↦ subst (λ (x : Option Why). TurnEnds x s s) (sym e) refl
+      | inr e ↦ subst (λ (x : Option Why). TurnEnds x s s) (sym e) refl
     ]
 
-starts_ends : (runs : ℕ) (o n : Shown) (s : Seen) → Starts runs o n → TurnEnds n.why s s
-starts_ends runs o n s h =
-    elim h.place [
-      | inl p ↦ subst (λ (w : Option Why). TurnEnds w s s) (sym p.1) refl
-      | inr p ↦ subst (λ (w : Option Why). TurnEnds w s s) (sym p.1) refl
+-- behind what was taken up
+takes_rests : (runs k : ℕ) (o n : Shown) → TakesUp runs o n → k ≤ o.replied → RestsBehind n.state k n.replied
+takes_rests runs k o n h few =
+    elim h [
+      | inl run ↦ starts_rests n.state n.why k o n run.2.place few
+      | inr none ↦ elim none.1 [
+        | inl names ↦
+            let within : k ≤ n.replied = omega (arith, names.2.replied, few) in
+            subst (λ (b : State). RestsBehind b k n.replied) (sym names.2.state) within
+        | inr wants ↦ subst (λ (b : State). RestsBehind b k n.replied) (sym wants.1.state) tt
+      ]
     ]
+
+takes_ends : (runs : ℕ) (o n : Shown) (s : Seen) → TakesUp runs o n → TurnEnds n.why s s
+takes_ends runs o n s h =
+    elim h [
+      | inl run ↦ starts_ends n.state n.why o n s run.2.place
+      | inr none ↦ elim none.1 [
+        | inl names ↦ subst (λ (x : Option Why). TurnEnds x s s) (sym names.2.why) refl
+        | inr wants ↦ subst (λ (x : Option Why). TurnEnds x s s) (sym wants.1.why) refl
+      ]
+    ]
+
+takes_same : (runs : ℕ) (o n : Shown) → TakesUp runs o n → SameShown o n
+takes_same runs o n h = elim h [ inl run ↦ run.2.same | inr none ↦ elim none.1 [ inl names ↦ names.2.same | inr wants ↦ wants.1.same ] ]
+
+takes_calls : (runs : ℕ) (o n : Shown) → TakesUp runs o n → n.calls ≡ o.calls + runs
+takes_calls runs o n h =
+    elim h [
+      | inl run ↦ omega (arith, run.0, run.2.calls)
+      | inr none ↦ elim none.1 [
+        | inl names ↦ omega (arith, none.0, names.2.calls)
+        | inr wants ↦ omega (arith, none.0, wants.1.calls)
+      ]
+    ]
+
+-- where a hijacker has it behind a write, more replies were sent whole, or it had it before
+held_rests : (a : State) (n r q : ℕ) → HijackedOn a r q → RestsBehind a n r → n < q
+held_rests state.Reading n r q on h = absurd on
+held_rests state.Ready n r q on h = absurd on
+held_rests state.Answering n r q on h = omega (arith, on, h)
+held_rests state.Hijacked n r q on h = omega (arith, on, h)
+held_rests state.Over n r q on h = absurd on
 
 -- what a write leaves
-says_rests : (b : State) (n r q : ℕ) → SaysOn b r q → IsBelow b q → n ≤ r → RestsBehind b n q
-says_rests state.Reading n r q on below few = let more : n < q = omega (arith, on, few) in (more, below)
-says_rests state.Ready n r q on below few = let more : n < q = omega (arith, on, few) in (more, below)
-says_rests state.Answering n r q on below few = omega (arith, on, few)
-says_rests state.Hijacked n r q on below few = absurd on
-says_rests state.Over n r q on below few = tt
+pub says_rests : (a b : State) (n r q : ℕ) → SaysOn a b r q → IsBelow b q → RestsBehind a n r → RestsBehind b n q
+says_rests a state.Reading n r q on below h =
+    let few : n ≤ r = subst (λ (x : State). RestsBehind x n r) on.0 h in
+    let more : n < q = omega (arith, on.1, few) in
+    (more, below)
+says_rests a state.Ready n r q on below h =
+    let few : n ≤ r = subst (λ (x : State). RestsBehind x n r) on.0 h in
+    let more : n < q = omega (arith, on.1, few) in
+    (more, below)
+says_rests a state.Answering n r q on below h =
+    let few : n ≤ r = subst (λ (x : State). RestsBehind x n r) on.0 h in
+    omega (arith, on.1, few)
+says_rests a state.Hijacked n r q on below h = held_rests a n r q on h
+says_rests a state.Over n r q on below h = tt
 
 -- some are left, where the last of none was made
 pub unspent : (b : Bool) (l : Left) → (IsTrue b ↔ IsSpentLeft l) → b ≡ false → (0 < l.runs) × (0 < l.reads) × (0 < l.writes)
@@ -182,7 +244,7 @@ read_steps a o n s u l came h is some reading none =
     }
 
 -- one that took up a request or a refusal
-pub start_steps : (o n : Shown) (s : Seen) (l m : Left) → Starts (l.runs - m.runs) o n → m ≡ record l { runs = m.runs } → m.runs ≤ l.runs
+pub start_steps : (o n : Shown) (s : Seen) (l m : Left) → TakesUp (l.runs - m.runs) o n → m ≡ record l { runs = m.runs } → m.runs ≤ l.runs
     → o.state ≡ state.Ready → o.why ≡ None → Steps o n s s l m
 start_steps o n s l m h is few ready none =
     let same_reads : m.reads ≡ l.reads = ap (λ (x : Left). x.reads) is in
@@ -191,24 +253,24 @@ start_steps o n s l m h is few ready none =
     let writes : l.writes - m.writes ≡ 0 = omega (arith, same_writes) in
     let fewer : m.reads ≤ l.reads = omega (arith, same_reads) in
     let fewest : m.writes ≤ l.writes = omega (arith, same_writes) in
-    let calls : n.calls + m.runs ≡ o.calls + l.runs = omega (arith, h.calls, few) in
+    let calls : n.calls + m.runs ≡ o.calls + l.runs = omega (arith, takes_calls (l.runs - m.runs) o n h, few) in
     record {
-      moved = moved_same o n s (l.reads - m.reads) (l.writes - m.writes) h.same reads writes;
+      moved = moved_same o n s (l.reads - m.reads) (l.writes - m.writes) (takes_same (l.runs - m.runs) o n h) reads writes;
       came = ap (λ (x : Left). x.came) is;
       calls = calls;
       few = (few, fewer, fewest);
       replied = λ k x.
           let below : k < o.replied = (subst (λ (b : State). RestsBehind b k o.replied) ready x).0 in
           let within : k ≤ o.replied = omega (arith, below) in
-          starts_rests (l.runs - m.runs) k o n h within;
-      ends = λ first reads writes x. ends_then o.why n.why first s s none reads writes (starts_ends (l.runs - m.runs) o n s h) x;
+          takes_rests (l.runs - m.runs) k o n h within;
+      ends = λ first reads writes x. ends_then o.why n.why first s s none reads writes (takes_ends (l.runs - m.runs) o n s h) x;
     }
 
 -- one that said
 pub say_steps : (a : Said) (o n : Shown) (s u : Seen) (l : Left) (writes : ℕ) → Says a o n s u → writes + writes_of a ≡ l.writes
-    → o.state ≡ state.Answering → o.why ≡ None → IsBelow n.state n.replied
+    → o.why ≡ None → IsBelow n.state n.replied
     → Steps o n s u l (record { runs = l.runs; reads = l.reads; writes = writes; came = l.came })
-say_steps a o n s u l writes h is saying none below =
+say_steps a o n s u l writes h is none below =
     let nothing : 0 ≡ l.reads - l.reads = omega arith in
     let one : writes_of a ≡ l.writes - writes = omega (arith, is) in
     let few : l.runs ≤ l.runs = omega arith in
@@ -219,7 +281,7 @@ say_steps a o n s u l writes h is saying none below =
       came = ap (λ (x : List ℕ). counted_by (length x) l.came) (sym h.came);
       calls = ap (λ k. k + l.runs) h.calls;
       few = (few, fewer, fewest);
-      replied = λ k x. says_rests n.state k o.replied n.replied h.replied below (subst (λ (b : State). RestsBehind b k o.replied) saying x);
+      replied = λ k x. says_rests o.state n.state k o.replied n.replied h.replied below x;
       ends = λ first reads writes x. ends_then o.why n.why first s u none reads writes h.ends x;
     }
 
@@ -233,7 +295,7 @@ pub record Turning (old new : Shown) (s s' : Seen) (l : Left) : Type 0 where
   pub ends : TurnEnds new.why s s'
 
 -- its first part
-pub turning_start : (o n : Shown) (s : Seen) (f l : Left) → f ≡ full → Starts (f.runs - l.runs) o n → l ≡ record f { runs = l.runs }
+pub turning_start : (o n : Shown) (s : Seen) (f l : Left) → f ≡ full → TakesUp (f.runs - l.runs) o n → l ≡ record f { runs = l.runs }
     → l.runs ≤ f.runs → Turning o n s s l
 turning_start o n s f l all h is few =
     let ten : f.runs ≡ 10 = ap (λ (x : Left). x.runs) all in
@@ -244,15 +306,15 @@ turning_start o n s f l all h is few =
     let fewest : l.runs ≤ 10 = omega (arith, ten, few) in
     let fewer_reads : l.reads ≤ 160 = omega (arith, same_reads) in
     let fewer_writes : l.writes ≤ 160 = omega (arith, same_writes) in
-    let calls : n.calls + l.runs ≡ o.calls + 10 = omega (arith, h.calls, ten, few) in
+    let calls : n.calls + l.runs ≡ o.calls + 10 = omega (arith, takes_calls (f.runs - l.runs) o n h, ten, few) in
     let within : o.replied ≤ o.replied = omega arith in
     record {
-      moved = moved_same o n s (160 - l.reads) (160 - l.writes) h.same reads writes;
+      moved = moved_same o n s (160 - l.reads) (160 - l.writes) (takes_same (f.runs - l.runs) o n h) reads writes;
       came = ap (λ (x : Left). x.came) is ∙ ap (λ (x : Left). x.came) all;
       calls = calls;
       few = (fewest, fewer_reads, fewer_writes);
-      rests = starts_rests (f.runs - l.runs) o.replied o n h within;
-      ends = starts_ends (f.runs - l.runs) o n s h;
+      rests = takes_rests (f.runs - l.runs) o.replied o n h within;
+      ends = takes_ends (f.runs - l.runs) o n s h;
     }
 
 -- and a step
@@ -303,13 +365,26 @@ came_some (b ∷ came) n is some = omega arith
 some_came : (came : List ℕ) (n : ℕ) → n ≡ counted_by (length came) 0 → 0 < length came → 0 < n
 some_came came n is some = omega (arith, is, some, counted_sum (length came) 0 some)
 
--- the link had to wait in the last step, or no step may be made
-waited : (n : Shown) (s u : Seen) (l : Left) → Rose s.waits u.waits ⊎ ((n.state ≡ state.Over) ⊎ IsSpentLeft l)
-    → n.state ≢ state.Over → ¬ (IsSpentLeft l) → Rose s.waits u.waits
-waited n s u l h live more = elim h [ inl rose ↦ rose | inr k ↦ elim k [ inl over ↦ absurd (live over) | inr spent ↦ absurd (more spent) ] ]
+-- the link had to wait in the last step, or a hijacker has the connection and nothing is owed, or no step may be made
+waited : (n : Shown) (s u : Seen) (l : Left)
+    → Rose s.waits u.waits ⊎ ((n.state ≡ state.Over) ⊎ (IsHandedOver n ⊎ IsSpentLeft l))
+    → n.state ≢ state.Over → ¬ (IsSpentLeft l) → Rose s.waits u.waits ⊎ IsHandedOver n
+waited n s u l h live more =
+    elim h [
+      | inl rose ↦ inl rose
+      | inr k ↦ elim k [
+        | inl over ↦ absurd (live over)
+        | inr j ↦ elim j [ inl handed ↦ inr handed | inr spent ↦ absurd (more spent) ]
+      ]
+    ]
 
 module _ {B H : Type 0} (a : At B H) (o n : Shown) (s u : Seen) (l : Left) (more : Bool) (h : Turning o n s u l) (is : n.state ≡ state_at a)
-    (got : IsTrue more ↔ (o.replied < n.replied)) (stopped : Rose s.waits u.waits ⊎ ((n.state ≡ state.Over) ⊎ IsSpentLeft l)) where
+    (got : IsTrue more ↔ (o.replied < n.replied))
+    (stopped : Rose s.waits u.waits ⊎ ((n.state ≡ state.Over) ⊎ (IsHandedOver n ⊎ IsSpentLeft l))) where
+  -- behind a hijacker's taking over, a reply was sent whole
+  handed_got : IsHandedOver n → IsTrue more
+  handed_got handed = got.1 (subst (λ (b : State). RestsBehind b o.replied n.replied) handed.0 h.rests)
+
   turn_tells : (result : Next) → TurnedSo result a l more → TurnTells result (10 - l.runs) (160 - l.reads) (160 - l.writes) h.moved.came o n s u
   turn_tells next.Waiting f =
       let live : n.state ≢ state.Over = λ e. f.0 (sym is ∙ e) in (
@@ -319,7 +394,10 @@ module _ {B H : Type 0} (a : At B H) (o n : Shown) (s u : Seen) (l : Left) (more
           | inl some ↦ let k = some_came h.moved.came l.came h.came some in omega (arith, k, f.2)
           | inr rose ↦ let t : more ≡ true = got.1 rose in let e : more ≡ false = f.3 in cc
         ],
-        waited n s u l stopped live f.1,
+        elim (waited n s u l stopped live f.1) [
+          | inl rose ↦ rose
+          | inr handed ↦ let t : more ≡ true = handed_got handed in let e : more ≡ false = f.3 in absurd (cc)
+        ],
       )
   turn_tells next.More f =
       let live : n.state ≢ state.Over = λ e. f.0 (sym is ∙ e) in (
@@ -357,115 +435,23 @@ module _ {B H : Type 0} (a : At B H) (o n : Shown) (s u : Seen) (l : Left) (more
       }
 
 -- why a turn stops: the link had to wait in the last step, or none may be made
-pub step_stops : {B H : Type 0} (r : Step) (l k : Left) (a b : At B H) (s t u : Seen) → (r ≡ step.Waits) ⊎ (r ≡ step.Stops)
-    → StepLeaves r l k a b t u → s.waits ≤ t.waits → Rose s.waits u.waits ⊎ ((state_at b ≡ state.Over) ⊎ IsSpentLeft k)
-step_stops {B} {H} step.GoesOn l k a b s t u e h early = elim e [ inl x ↦ cc | inr x ↦ cc ]
-step_stops {B} {H} step.Waits l k a b s t u e h early =
+pub step_stops : {B H : Type 0} (r : Step) (l k : Left) (a b : At B H) (n : Shown) (s t u : Seen) → (r ≡ step.Waits) ⊎ (r ≡ step.Stops)
+    → StepLeaves r l k a b t u → s.waits ≤ t.waits → n.state ≡ state_at b → (IsHearing b → IsHandedOver n)
+    → Rose s.waits u.waits ⊎ ((n.state ≡ state.Over) ⊎ (IsHandedOver n ⊎ IsSpentLeft k))
+step_stops {B} {H} step.GoesOn l k a b n s t u e h early is hands = elim e [ inl x ↦ cc | inr x ↦ cc ]
+step_stops {B} {H} step.Waits l k a b n s t u e h early is hands =
     let last : u.waits ≤ u.waits = omega arith in inl (rose_within s.waits t.waits u.waits u.waits early h last)
-step_stops {B} {H} step.Stops l k a b s t u e h early = inr h
+step_stops {B} {H} step.Stops l k a b n s t u e h early is hands =
+    elim h [
+      | inl over ↦ inr (inl (is ∙ over))
+      | inr j ↦ elim j [ inl hears ↦ inr (inr (inl (hands hears))) | inr spent ↦ inr (inr (inr spent)) ]
+    ]
 
 -- more replies were sent whole than before
 pub risen : (b n x y : ℕ) → b ≡ x → n ≡ y → IsTrue (ltb b n) ↔ (x < y)
 risen b n x y e f =
     let d = Decides-ltb b n in
     (λ t. let k : b < n = d.0 t in omega (arith, k, e, f), λ h. let k : b < n = omega (arith, h, e, f) in d.1 k)
-
--- what a flush of so many writes did so far
-pub record Flushing (old new : Shown) (s s' : Seen) (writes : ℕ) : Type 0 where
-  pub few : writes ≤ 16
-  pub moved : Moved old new s s' 0 writes
-  pub came : moved.came ≡ []
-  pub given : s'.given ≡ s.given
-  pub calls : new.calls ≡ old.calls
-  pub rests : RestsBehind new.state old.replied new.replied
-  pub why : IsOfFlush new.why
-  pub ends : TurnEnds new.why s s'
-
--- and each write took bytes
-abbrev pub Falling : Shown → Shown → ℕ → Type 0
-Falling old new writes = new.state ≡ state.Answering → length new.owed + writes ≤ length old.owed
-
-pub flushing_start : (o : Shown) (s : Seen) → o.state ≡ state.Answering → o.why ≡ None → Flushing o o s s 0
-flushing_start o s saying none =
-    let few : 0 ≤ 16 = omega arith in
-    let within : o.replied ≤ o.replied = omega arith in
-    record {
-      few = few;
-      moved = moved_same o o s 0 0 (record { peer = refl; local = refl; lives = refl; taken = refl }) refl refl;
-      came = refl;
-      given = refl;
-      calls = refl;
-      rests = subst (λ (b : State). RestsBehind b o.replied o.replied) (sym saying) within;
-      why = subst IsOfFlush (sym none) tt;
-      ends = subst (λ (w : Option Why). TurnEnds w s s) (sym none) refl;
-    }
-
-pub flushing_step : (a : Said) (o m n : Shown) (s t u : Seen) (w x : ℕ) → w + writes_of a ≡ x → x ≤ 16 → Flushing o m s t w → Says a m n t u
-    → m.state ≡ state.Answering → m.why ≡ None → IsBelow n.state n.replied → Flushing o n s u x
-flushing_step a o m n s t u w x is few h p saying none below =
-    let nothing : 0 + 0 ≡ 0 = omega arith in
-    record {
-      few = few;
-      moved = moved_then o m n s t u 0 w 0 (writes_of a) 0 x nothing is h.moved p.moved;
-      came = ap (λ (y : List ℕ). y ++ p.moved.came) h.came ∙ p.came;
-      given = p.given ∙ h.given;
-      calls = p.calls ∙ h.calls;
-      rests = says_rests n.state o.replied m.replied n.replied p.replied below (subst (λ (b : State). RestsBehind b o.replied m.replied) saying h.rests);
-      why = p.why;
-      ends = ends_then m.why n.why s t u none h.moved.failed_reads h.moved.failed_writes p.ends h.ends;
-    }
-
-pub falling_start : (o : Shown) → Falling o o 0
-falling_start o saying = omega arith
-
-pub falling_step : (o m n : Shown) (t u : Seen) (w : ℕ) → Falling o m w → SaidLeaves said.Wrote m n t u → m.state ≡ state.Answering → Falling o n (w + 1)
-falling_step o m n t u w h p saying more = let a = p more in let b = h saying in omega (arith, a, b)
-
--- what such writes leave of what is owed, and one more that may have had to wait
-abbrev pub Fallen : Shown → Shown → ℕ → Type 0
-Fallen old new writes = new.state ≡ state.Answering → length new.owed + writes ≤ length old.owed + 1
-
-pub fallen : (o n : Shown) (w : ℕ) → Falling o n w → Fallen o n w
-fallen o n w h saying = let a = h saying in omega (arith, a)
-
-pub fallen_over : (o n : Shown) (w : ℕ) → n.state ≡ state.Over → Fallen o n w
-fallen_over o n w over saying = cc
-
-pub fallen_step : (o m n : Shown) (t u : Seen) (w : ℕ) → Falling o m w → SaidLeaves said.Waits m n t u → m.state ≡ state.Answering → Fallen o n (w + 1)
-fallen_step o m n t u w h p saying more = let b = h saying in omega (arith, p.2, b)
-
-module _ {B H : Type 0} (a : At B H) (o n : Shown) (s u : Seen) (w : ℕ) (h : Flushing o n s u w) (falls : Fallen o n w) (is : n.state ≡ state_at a)
-    (stopped : Rose s.waits u.waits ⊎ ((n.state ≢ state.Answering) ⊎ (w ≡ 16))) where
-  flush_tells : (result : Next) → FlushedSo result a w → FlushTells result w n s u
-  flush_tells next.Waiting f = (
-    is ∙ f.0,
-    f.1,
-    elim stopped [ inl rose ↦ rose | inr k ↦ elim k [ inl not ↦ absurd (not (is ∙ f.0)) | inr e ↦ absurd (f.1 e) ] ],
-  )
-  flush_tells next.More f = (is ∙ f.0, f.1)
-  flush_tells next.Ready f = (is ∙ f.0, f.1)
-  flush_tells next.TurnOver f = (λ e. f.0 (sym is ∙ e), f.1)
-  flush_tells next.Over f = is ∙ f
-
-  -- and its end
-  pub flushing_end : (result : Next) → FlushedSo result a w → FlushMade o n s u w → Flushes result o n s u
-  flushing_end result f made = record {
-    writes = w;
-    few = h.few;
-    moves = made.moves;
-    waited = made.waited;
-    made = made.made;
-    stops = made.stops;
-    moved = h.moved;
-    came = h.came;
-    given = h.given;
-    calls = h.calls;
-    falls = falls;
-    rests = h.rests;
-    why = h.why;
-    ends = h.ends;
-    tells = flush_tells result f;
-  }
 
 -- the same replies, where the answers are the same
 pub tells_same : {H : Type 0} (T : Teller H) (a b : Stack H) (l k : Local) (p q : List ℕ) → ((ps : Pairs) (input : List ℕ) → b ps input ≡ a ps input)

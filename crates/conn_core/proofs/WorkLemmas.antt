@@ -13,7 +13,11 @@ rank_over {B} {H} at.Asked e = cc
 rank_over {B} {H} (at.Refused f) e = cc
 rank_over {B} {H} (at.Answering f) e = cc
 rank_over {B} {H} (at.Writing keeps) e = cc
+rank_over {B} {H} (at.Handing h) e = cc
 rank_over {B} {H} at.Refusing e = cc
+rank_over {B} {H} (at.Taken h) e = cc
+rank_over {B} {H} (at.Speaking h) e = cc
+rank_over {B} {H} at.Parting e = cc
 rank_over {B} {H} (at.Over ended) e = refl
 
 rank_ready : {B H : Type 0} (a : At B H) → state_at a ≡ state.Ready → 1 ≤ rank a
@@ -22,7 +26,11 @@ rank_ready {B} {H} at.Asked e = let one : 1 ≤ 1 = omega arith in one
 rank_ready {B} {H} (at.Refused f) e = let two : 1 ≤ 2 = omega arith in two
 rank_ready {B} {H} (at.Answering f) e = cc
 rank_ready {B} {H} (at.Writing keeps) e = cc
+rank_ready {B} {H} (at.Handing h) e = cc
 rank_ready {B} {H} at.Refusing e = cc
+rank_ready {B} {H} (at.Taken h) e = cc
+rank_ready {B} {H} (at.Speaking h) e = cc
+rank_ready {B} {H} at.Parting e = cc
 rank_ready {B} {H} (at.Over ended) e = cc
 
 -- a connection that ended has nothing to do

@@ -45,7 +45,7 @@ past s calls given sent over = record {
 pub record Between {H : Type 0} (V : Voice H) (T : Teller H) (over : Bool) (given sent : List ℕ) (c : Kept) (now : List ℕ) : Type 0 where
   pub fed : Fed c.intake now
   pub ring : c.ring ≡ []
-  pub open : over ≡ false
+  pub live : over ≡ false
   pub stands : Stands V T over given sent c.calls silent (now ++ c.held) []
 
 -- a reply is under way: what is owed of it is in the ring and behind it, and the bytes held come behind its request.
@@ -53,7 +53,7 @@ pub record Between {H : Type 0} (V : Voice H) (T : Teller H) (over : Bool) (give
 pub record Replying {H : Type 0} (V : Voice H) (T : Teller H) (over : Bool) (given sent : List ℕ) (c : Kept) (k : ℕ) (r : Parts)
     (behind : List ℕ) : Type 0 where
   pub count : c.calls ≡ suc k
-  pub open : over ≡ false
+  pub live : over ≡ false
   pub stands : Stands V T over given sent k (replies r) c.held (c.ring ++ behind)
 
 -- the hijacker that a reply handed the connection to was told the rest of the bytes, and what it said of that and
@@ -69,9 +69,9 @@ pub record Handed {H : Type 0} (V : Voice H) (T : Teller H) (over : Bool) (given
 -- the same, and it goes on: it is this one behind those bytes. The peer did not end, and no byte is held
 pub record Hears {H : Type 0} (V : Voice H) (T : Teller H) (over : Bool) (given sent : List ℕ) (c : Kept) (now : H) : Type 0 where
   pub handed : Handed V T over given sent c
-  pub open : over ≡ false
+  pub live : over ≡ false
   pub goes : (V.says handed.first handed.rest).go_on ≡ true
-  pub as : GoesOnAs (V.says handed.first) (V.ends handed.first) handed.rest (V.says now) (V.ends now)
+  pub behind : GoesOnAs (V.says handed.first) (V.ends handed.first) handed.rest (V.says now) (V.ends now)
 
 -- the same, and it said its last: it does not go on, or it was told the peer's end
 pub record SaidLast {H : Type 0} (V : Voice H) (T : Teller H) (over : Bool) (given sent : List ℕ) (c : Kept) : Type 0 where

@@ -1,5 +1,5 @@
 -- What the steps of a connection leave of what it shows. This serves inner contracts alone.
-use Rattle.std.specs.Prelude.{◌≡◌, ℕ, ◌+◌, ◌-◌, ◌*◌, ◌<◌, ◌≤◌, Bool, true, false, List, [], length, None, Some, ◌⊎◌, ⊤}
+use Rattle.std.specs.Prelude.{◌≡◌, ◌≢◌, ℕ, ◌+◌, ◌-◌, ◌*◌, ◌<◌, ◌≤◌, Bool, true, false, List, [], length, None, Some, ◌⊎◌, ⊤}
 use Rattle.rack_types.specs.declared.fault.Fault.{Fault}
 use Rattle.rack_types.specs.declared.peer.Local.{Local}
 use Rattle.rack_types.specs.Request.{Parts}
@@ -11,7 +11,6 @@ use Rattle.rack_outside.specs.declared.link.LinkRead.TheVariants as read
 use Rattle.rack_outside.specs.declared.link.LinkWrite.{LinkWrite}
 use Rattle.rack_outside.specs.declared.link.LinkWrite.TheVariants as write
 use Rattle.talk_core.specs.Counts.{counted_by}
-use Rattle.talk_core.specs.declared.ended.Why.TheVariants as why
 use Rattle.talk_core.specs.Teller.{Stack, Teller, reply_of, is_last}
 use Rattle.conn_core.specs.declared.left.Left.{Left}
 use Rattle.conn_core.specs.declared.left.Said.{Said}
@@ -200,7 +199,7 @@ abbrev pub TakesUp : ℕ → Shown → Shown → Type 0
 TakesUp runs old new =
     ((runs ≡ 1) × (old.fault ≡ None) × Starts old new)
     ⊎ ((runs ≡ 0)
-        × (((fault : Fault) × (old.fault ≡ Some fault) × NamesFault fault old new) ⊎ ((old.fault ≡ None) × WantsMemory old new)))
+    × (((fault : Fault) × (old.fault ≡ Some fault) × NamesFault fault old new) ⊎ ((old.fault ≡ None) × WantsMemory old new)))
 
 -- how a step that says went: memory was refused, or it was one write
 abbrev pub SaysOnce : Said → Shown → Shown → Seen → Seen → Type 0

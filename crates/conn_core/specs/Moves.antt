@@ -255,7 +255,7 @@ Makes (Refusal fault) m n =
     × NamesFault fault m.shown n.shown
 Makes Want m n =
     (((m.shown.state ≡ state.Ready) × (m.shown.fault ≡ None) × IsOpen m)
-        ⊎ ((m.shown.state ≡ state.Answering) × (m.shown.sure ≡ false) × MayWrite m))
+    ⊎ ((m.shown.state ≡ state.Answering) × (m.shown.sure ≡ false) × MayWrite m))
     × Spends 0 0 0 false m n × (n.seen ≡ m.seen) × WantsMemory m.shown n.shown
 Makes (Read answer) m n =
     (m.shown.state ≡ state.Reading) × IsOpen m × Spends 0 1 0 (read_waits answer) m n × ReadsOnce answer m.shown n.shown m.seen n.seen

@@ -16,7 +16,7 @@ use Rattle.conn_core.specs.declared.place.At.TheVariants as at
 abbrev pub GoesOn : After → Intake → ℕ → Type 0
 GoesOn Keep intake calls = StandsWhole intake × ((0 < calls) × (calls < 10000))
 GoesOn Close intake calls = ⊤
-GoesOn Hijack intake calls = ⊤
+GoesOn Hijack intake calls = 0 < calls
 
 abbrev pub after_of : Bool → After
 after_of true = Keep
@@ -47,7 +47,7 @@ StandsWholeAt-prop stands.Lacking = λ x y. absurd x
 pub GoesOn-prop : (after : After) (intake : Intake) (calls : ℕ) → IsProp (GoesOn after intake calls)
 GoesOn-prop Keep intake calls = ×_prop (StandsWholeAt-prop intake.standing) (×_prop le_prop le_prop)
 GoesOn-prop Close intake calls = Unit-prop
-GoesOn-prop Hijack intake calls = Unit-prop
+GoesOn-prop Hijack intake calls = le_prop
 
 pub RestsAt-prop : {B H : Type 0} (a : At B H) (intake : Intake) (held ring : List ℕ) (calls : ℕ) → IsProp (RestsAt a intake held ring calls)
 RestsAt-prop {B} {H} at.Reading intake held ring calls =

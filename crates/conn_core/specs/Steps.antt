@@ -204,7 +204,7 @@ Untouched old held new left = (new ≡ old) × (left ≡ held)
 pub record GoesOnTo {H : Type 0} (V : Voice H) (h : H) (piece : List ℕ) (now : H) (ring left : List ℕ) : Type 0 where
   pub ring_is : ring ≡ (V.says h piece).bytes
   pub goes : (V.says h piece).go_on ≡ true
-  pub as : GoesOnAs (V.says h) (V.ends h) piece (V.says now) (V.ends now)
+  pub behind : GoesOnAs (V.says h) (V.ends h) piece (V.says now) (V.ends now)
   pub left_is : left ≡ []
 
 -- one that doesn't go on

@@ -78,8 +78,14 @@ pub(crate) fn flushed<B: Body, H>(at: &At<B, H>, writes: u64, handed: bool) -> N
         At::Over(_) => Next::Over,
         At::Asked | At::Refused(_) => told(writes, Next::Ready),
         At::Reading | At::Taken(_) => told(writes, Next::More),
-        At::Answering(_) | At::Writing(_) | At::Handing(_) | At::Refusing => told(writes, Next::Waiting),
-        At::Speaking(_) | At::Parting => told(writes, if handed { Next::More } else { Next::Waiting }),
+        At::Answering(_) | At::Writing(_) | At::Handing(_) | At::Refusing => told(
+            writes,
+            Next::Waiting,
+        ),
+        At::Speaking(_) | At::Parting => told(
+            writes,
+            if handed { Next::More } else { Next::Waiting },
+        ),
     }
 }
 

@@ -1,3 +1,4 @@
+use Rattle.talk_core.specs.Tail.{Voice}
 use Rattle.conn_core.proofs.ConnLemmas.{turn_holds}
 use Rattle.conn_core.proofs.RetellLemmas.{runs_of_same}
 use Rattle.conn_core.proofs.conn.Conn.turn.Goals as goal
@@ -11,7 +12,8 @@ returns-clause-holds g c = λ S steady same h.
     record { lives_are = both.0; stands = both.1 }
 
 pub returns-clause-any : goal.returns-clause-any
-returns-clause-any g c = λ V T h.
+returns-clause-any g c = λ T h.
+    let V : Voice g.row.H.Denot = record { says = g.H.Hijack.says; ends = g.H.Hijack.ends } in
     let runs = runs_of_same V T (g.L.Link.seen c.args.self.now.link) (g.L.Link.seen c.turn.new.link) c.args.self.now.inside.value
-    c.deref_mut-inside.result.now c.turn.new.self c.deref_mut-inside.ensures.value (c.turn.ensures.any V T) h in
+    c.deref_mut-inside.result.now c.turn.new.self c.deref_mut-inside.ensures.value (c.turn.ensures.any T) h in
     record { teller = runs.teller; before = runs.before; stands = runs.stands }

@@ -2,6 +2,7 @@ use Rattle.std.proofs.Common.{sym, subst}
 use Rattle.conn_core.specs.declared.inside.Inside.{Inside}
 use Rattle.conn_core.specs.Place.{IsSaying}
 use Rattle.conn_core.proofs.ConnLemmas.{owed_says, says_owed}
+use Rattle.conn_core.proofs.MoveLemmas.{saying_owing, owing_saying}
 use Rattle.conn_core.proofs.conn.Conn.wants_write.Goals as goal
 
 pub returns-clause-bytes : goal.returns-clause-bytes
@@ -12,4 +13,13 @@ returns-clause-bytes g c =
       λ some. c.is_saying.ensures.1
           (subst (λ (x : Inside g.row.B.Denot g.row.H.Denot g.B.Body). IsSaying x.at) (sym c.deref.ensures)
           (says_owed p.at p.intake p.held p.ring.items p.calls p.rests some)),
+    )
+
+pub returns-clause-state : goal.returns-clause-state
+returns-clause-state g c =
+    let p = c.args.self.now.inside.value in (
+      λ says. saying_owing p
+          (subst (λ (x : Inside g.row.B.Denot g.row.H.Denot g.B.Body). IsSaying x.at) c.deref.ensures (c.is_saying.ensures.0 says)),
+      λ owing. c.is_saying.ensures.1
+          (subst (λ (x : Inside g.row.B.Denot g.row.H.Denot g.B.Body). IsSaying x.at) (sym c.deref.ensures) (owing_saying p owing)),
     )

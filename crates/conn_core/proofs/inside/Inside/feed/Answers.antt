@@ -1,31 +1,68 @@
-use Rattle.std.proofs.Common.{List, ℕ, length, ap, refl}
-use Rattle.rack_outside.specs.declared.link.LinkRead.TheVariants as read
+use Rattle.std.proofs.Common.{◌≡◌, refl, sym, subst, ◌∙◌, inl, inr}
+use Rattle.rack_outside.specs.declared.link.LinkRead.{LinkRead}
+use Rattle.conn_core.specs.declared.state.Next.TheVariants as next
+use Rattle.conn_core.specs.declared.state.State.TheVariants as state
+use Rattle.conn_core.specs.Place.{state_at}
 use Rattle.conn_core.specs.Shown.{shows}
-use Rattle.conn_core.proofs.FedLemmas.{feeding_end, feeding_over}
+use Rattle.conn_core.proofs.FedLemmas.{AnswersSo, Went, feeding_end, went_same, unread, fed_so}
+use Rattle.conn_core.proofs.MoveLemmas.{may_state}
+use Rattle.conn_core.proofs.ToldLemmas.{hears_shown}
 use Rattle.conn_core.proofs.inside.Inside.feed.Goals as goal
+use Rattle.conn_core.proofs.inside.Inside.feed.Goals.{in-Reading, in-Ready}
 
 pub returns-in-NotYet-clause-feeds : goal.returns-in-NotYet-clause-feeds
 returns-in-NotYet-clause-feeds g c =
-    let h = c.in-NotYet.ensures.reads in
-    record {
-      answer = read.NotYet;
-      once = c.in-NotYet.ensures.once;
-      moved = h.moved;
-      came_is = ap (λ (x : List ℕ). length x) h.leaves.0;
-      calls = h.calls;
-      replied = h.replied;
-      sent = h.sent;
-      why = h.why;
-      ends = h.ends;
-      tells = (h.leaves.1, h.leaves.0, h.leaves.2);
-    }
+    let went : Went c.match-state_at.read (shows c.args.self.now) (shows c.match-state_at.self) (g.L.Link.seen c.args.link.now) (g.L.Link.seen c.match-state_at.link) =
+    elim c.match-state_at.branch [
+      | in-Reading w ↦
+          let reading : state_at c.args.self.now.at ≡ state.Reading = sym c.state_at.ensures ∙ w.in-Reading.is in
+          went_same g.L.Link.seen (shows c.args.self.now) (g.L.Link.seen c.args.link.now) w.read-read.new.self c.match-state_at.self
+          w.read-read.new.link c.match-state_at.link w.read-read.result c.match-state_at.read w.self-is w.link-is w.read-is
+          (inl (reading, w.read-read.ensures.reads), w.read-read.ensures.once)
+      | in-Ready w ↦
+          let held = (hears_shown c.args.self.now.at (may_state c.args.self.now.at c.requires (λ e. unread c.state_at.result w.in-Ready.is (c.state_at.ensures ∙ e)))).0 in
+          went_same g.L.Link.seen (shows c.args.self.now) (g.L.Link.seen c.args.link.now) w.hear-read.new.self c.match-state_at.self
+          w.hear-read.new.link c.match-state_at.link w.hear-read.result c.match-state_at.read w.self-is w.link-is w.read-is
+          (inr (held, w.hear-read.ensures.reads), w.hear-read.ensures.once)
+    ] in
+    feeding_end c.match-state_at.self.at (shows c.args.self.now) (shows c.match-state_at.self) (g.L.Link.seen c.args.link.now)
+    (g.L.Link.seen c.match-state_at.link) c.match-state_at.read next.Waiting refl went
+    (subst (λ (x : LinkRead). AnswersSo x next.Waiting c.match-state_at.self.at) (sym c.in-NotYet.is) refl)
 
 pub returns-in-Bytes-clause-feeds : goal.returns-in-Bytes-clause-feeds
 returns-in-Bytes-clause-feeds g c =
-    feeding_end c.read.new.self.at c.in-Bytes.field-0 (shows c.args.self.now) (shows c.read.new.self) (g.L.Link.seen c.args.link.now)
-    (g.L.Link.seen c.read.new.link) c.in-Bytes.ensures.reads c.in-Bytes.ensures.once refl c.fed.result c.fed.ensures
+    let went : Went c.match-state_at.read (shows c.args.self.now) (shows c.match-state_at.self) (g.L.Link.seen c.args.link.now) (g.L.Link.seen c.match-state_at.link) =
+    elim c.match-state_at.branch [
+      | in-Reading w ↦
+          let reading : state_at c.args.self.now.at ≡ state.Reading = sym c.state_at.ensures ∙ w.in-Reading.is in
+          went_same g.L.Link.seen (shows c.args.self.now) (g.L.Link.seen c.args.link.now) w.read-read.new.self c.match-state_at.self
+          w.read-read.new.link c.match-state_at.link w.read-read.result c.match-state_at.read w.self-is w.link-is w.read-is
+          (inl (reading, w.read-read.ensures.reads), w.read-read.ensures.once)
+      | in-Ready w ↦
+          let held = (hears_shown c.args.self.now.at (may_state c.args.self.now.at c.requires (λ e. unread c.state_at.result w.in-Ready.is (c.state_at.ensures ∙ e)))).0 in
+          went_same g.L.Link.seen (shows c.args.self.now) (g.L.Link.seen c.args.link.now) w.hear-read.new.self c.match-state_at.self
+          w.hear-read.new.link c.match-state_at.link w.hear-read.result c.match-state_at.read w.self-is w.link-is w.read-is
+          (inr (held, w.hear-read.ensures.reads), w.hear-read.ensures.once)
+    ] in
+    feeding_end c.match-state_at.self.at (shows c.args.self.now) (shows c.match-state_at.self) (g.L.Link.seen c.args.link.now)
+    (g.L.Link.seen c.match-state_at.link) c.match-state_at.read c.fed.result refl went
+    (fed_so c.match-state_at.read c.fed.result c.match-state_at.self.at c.in-Bytes.is c.fed.ensures)
 
-pub returns-in-End-clause-feeds : goal.returns-in-End-clause-feeds
-returns-in-End-clause-feeds g c =
-    feeding_over c.read.result (shows c.args.self.now) (shows c.read.new.self) (g.L.Link.seen c.args.link.now) (g.L.Link.seen c.read.new.link)
-    c.in-End.is c.read.ensures.reads c.read.ensures.once
+pub returns-in-Failed-clause-feeds : goal.returns-in-Failed-clause-feeds
+returns-in-Failed-clause-feeds g c =
+    let went : Went c.match-state_at.read (shows c.args.self.now) (shows c.match-state_at.self) (g.L.Link.seen c.args.link.now) (g.L.Link.seen c.match-state_at.link) =
+    elim c.match-state_at.branch [
+      | in-Reading w ↦
+          let reading : state_at c.args.self.now.at ≡ state.Reading = sym c.state_at.ensures ∙ w.in-Reading.is in
+          went_same g.L.Link.seen (shows c.args.self.now) (g.L.Link.seen c.args.link.now) w.read-read.new.self c.match-state_at.self
+          w.read-read.new.link c.match-state_at.link w.read-read.result c.match-state_at.read w.self-is w.link-is w.read-is
+          (inl (reading, w.read-read.ensures.reads), w.read-read.ensures.once)
+      | in-Ready w ↦
+          let held = (hears_shown c.args.self.now.at (may_state c.args.self.now.at c.requires (λ e. unread c.state_at.result w.in-Ready.is (c.state_at.ensures ∙ e)))).0 in
+          went_same g.L.Link.seen (shows c.args.self.now) (g.L.Link.seen c.args.link.now) w.hear-read.new.self c.match-state_at.self
+          w.hear-read.new.link c.match-state_at.link w.hear-read.result c.match-state_at.read w.self-is w.link-is w.read-is
+          (inr (held, w.hear-read.ensures.reads), w.hear-read.ensures.once)
+    ] in
+    feeding_end c.match-state_at.self.at (shows c.args.self.now) (shows c.match-state_at.self) (g.L.Link.seen c.args.link.now)
+    (g.L.Link.seen c.match-state_at.link) c.match-state_at.read next.Over refl went
+    (subst (λ (x : LinkRead). AnswersSo x next.Over c.match-state_at.self.at) (sym c.in-Failed.is) refl)

@@ -1,5 +1,6 @@
 use Rattle.std.proofs.Common.{◌≡◌, ◌↔◌, IsTrue, ℕ, refl, sym, subst, ◌∙◌}
 use Rattle.circular_buffer.specs.Buffer.{Buffer}
+use Rattle.talk_core.specs.Tail.{Voice}
 use Rattle.conn_core.specs.declared.place.At.{At}
 use Rattle.conn_core.specs.Holds.{kept}
 use Rattle.conn_core.specs.Inner.{IsFilledAt}
@@ -27,7 +28,8 @@ invariant_of-self g c =
     }
 
 pub returns-clause-holds : goal.returns-clause-holds
-returns-clause-holds g c = λ V T s h.
+returns-clause-holds g c = λ T s h.
+    let V : Voice g.row.H.Denot = record { says = g.H.Hijack.says; ends = g.H.Hijack.ends } in
     let x : Buffer ℕ = c.args.self.now.ring in
     let y : Buffer ℕ = c.fill-at.new.ring in
     let fills : FillsTo c.args.self.now.at x c.fill-at.result y =
@@ -42,7 +44,7 @@ returns-clause-fills g c =
     let p = c.args.self.now in
     let fills : FillsTo p.at x c.fill-at.result y =
     subst (λ (a : At g.row.B.Denot g.row.H.Denot). FillsTo a x c.fill-at.result y) c.replace.ensures.value c.fill-at.ensures in
-    fills_shown p.peer p.local p.lives.items p.calls p.taken c.is_saying-goes_on.result p.at c.put.new.at x y
+    fills_shown p.held p.peer p.local p.lives.items p.calls p.taken c.is_saying-goes_on.result p.at c.put.new.at x y
     (subst (λ (b : At g.row.B.Denot g.row.H.Denot). FillsTo p.at x b y) (sym c.put.ensures) fills) c.requires
     (subst (λ (b : At g.row.B.Denot g.row.H.Denot). IsTrue c.is_saying-goes_on.result ↔ IsSaying b) (sym c.put.ensures) c.is_saying-goes_on.ensures)
 

@@ -1,22 +1,26 @@
 use Rattle.std.proofs.Common.{◌≡◌, ℕ, ◌+◌, ◌-◌, ◌^◌, ◌<◌, min, length, refl, sym, ap, subst, ◌∙◌}
+use Rattle.rack_outside.specs.declared.link.LinkRead.TheVariants as read
 use Rattle.talk_core.specs.Counts.{counted_by}
 use Rattle.talk_core.specs.declared.ended.Why.TheVariants as why
+use Rattle.talk_core.specs.Tail.{Voice}
 use Rattle.conn_core.specs.declared.place.At.{At}
 use Rattle.conn_core.specs.declared.place.At.TheVariants as at
+use Rattle.conn_core.specs.declared.state.State.TheVariants as state
 use Rattle.conn_core.specs.Calls.{TurnEnds, IsOfFeed}
 use Rattle.conn_core.specs.Holds.{kept}
 use Rattle.conn_core.specs.Inner.{IsFed}
 use Rattle.conn_core.specs.Place.{state_at}
 use Rattle.conn_core.specs.Moves.{FedTo}
 use Rattle.conn_core.specs.Shown.{replied_at, owed_at, why_at}
-use Rattle.conn_core.proofs.MoveLemmas.{fed_to, unowed, unowed_fed}
+use Rattle.conn_core.proofs.MoveLemmas.{fed_to, unowed_fed}
 use Rattle.conn_core.proofs.PlaceLemmas.{stands_place}
 use Rattle.conn_core.proofs.ReadLemmas.{took_in, read_end, read_failed}
-use Rattle.conn_core.proofs.ShownLemmas.{counted_sum, moved_by_read, nothing_came, FedShown, fed_shown}
+use Rattle.conn_core.proofs.ShownLemmas.{counted_sum, moved_by_read, nothing_came, FedShown, fed_shown, read_once}
 use Rattle.conn_core.proofs.inside.Inside.read.Goals as goal
 
 pub returns-in-Bytes-clause-holds : goal.returns-in-Bytes-clause-holds
-returns-in-Bytes-clause-holds g c = λ V T h.
+returns-in-Bytes-clause-holds g c = λ T h.
+    let V : Voice g.row.H.Denot = record { says = g.H.Hijack.says; ends = g.H.Hijack.ends } in
     let s = g.L.Link.seen c.args.link.now in
     let s' = g.L.Link.seen c.read-read.new.link in
     stands_place c.feed_held-at.result c.put.new.at V T s' c.args.self.now.peer _ (sym c.put.ensures)
@@ -68,7 +72,8 @@ returns-in-NotYet-clause-reads g c =
     }
 
 pub returns-in-End-clause-holds : goal.returns-in-End-clause-holds
-returns-in-End-clause-holds g c = λ V T h.
+returns-in-End-clause-holds g c = λ T h.
+    let V : Voice g.row.H.Denot = record { says = g.H.Hijack.says; ends = g.H.Hijack.ends } in
     let s = g.L.Link.seen c.args.link.now in
     let s' = g.L.Link.seen c.read-read.new.link in
     stands_place (at.Over why.PeerEnd) c.put-in-End.new.at V T s' c.args.self.now.peer _ (sym c.put-in-End.ensures)
@@ -92,7 +97,8 @@ returns-in-End-clause-reads g c =
     }
 
 pub returns-in-Failed-clause-holds : goal.returns-in-Failed-clause-holds
-returns-in-Failed-clause-holds g c = λ V T h.
+returns-in-Failed-clause-holds g c = λ T h.
+    let V : Voice g.row.H.Denot = record { says = g.H.Hijack.says; ends = g.H.Hijack.ends } in
     let s = g.L.Link.seen c.args.link.now in
     let s' = g.L.Link.seen c.read-read.new.link in
     stands_place (at.Over why.ReadFailed) c.put-in-Failed.new.at V T s' c.args.self.now.peer _ (sym c.put-in-Failed.ensures)
@@ -126,78 +132,42 @@ returns-in-Bytes-clause-once g c =
     let calls : replied_at c.feed_held-at.result p.calls ≡ p.calls =
     (fed_shown c.feed_held-at.result p.calls (g.L.Link.seen c.args.link.now) (g.L.Link.seen c.read-read.new.link) p.intake c.feed_held-at.new.intake
     c.read-read.new.self c.feed_held-at.new.held c.in-Bytes.ensures.reads.3 c.feed_held-at.ensures).replied in
-    record {
-      offers = c.in-Bytes.ensures.offers;
-      one = c.in-Bytes.ensures.keeps;
-      peer = refl;
-      local = refl;
-      lives = refl;
-      calls = refl;
-      replied = ap (λ (a : At g.row.B.Denot g.row.H.Denot). replied_at a p.calls) place ∙ calls
-          ∙ sym (ap (λ (a : At g.row.B.Denot g.row.H.Denot). replied_at a p.calls) c.requires);
-      owed = ap (λ (a : At g.row.B.Denot g.row.H.Denot). owed_at a p.ring.items) place
-          ∙ unowed_fed p.at c.feed_held-at.result p.intake p.held p.ring.items p.calls c.requires p.rests to;
-      taken = c.saturating_add-self.ensures ∙ sym (counted_sum n p.taken c.in-Bytes.ensures.reads.1);
-      behind = subst (λ (a : At g.row.B.Denot g.row.H.Denot). FedTo (state_at a) (why_at a)) (sym place) to;
-    }
+    read_once (read.Bytes n) state.Reading _ _ _ _ c.in-Bytes.ensures.offers c.in-Bytes.ensures.keeps refl refl refl refl
+    (ap (λ (a : At g.row.B.Denot g.row.H.Denot). replied_at a p.calls) place ∙ calls
+    ∙ sym (ap (λ (a : At g.row.B.Denot g.row.H.Denot). replied_at a p.calls) c.requires))
+    (c.saturating_add-self.ensures ∙ sym (counted_sum n p.taken c.in-Bytes.ensures.reads.1))
+    (ap (λ (a : At g.row.B.Denot g.row.H.Denot). state_at a) c.requires) (
+      subst (λ (a : At g.row.B.Denot g.row.H.Denot). FedTo (state_at a) (why_at a)) (sym place) to,
+      ap (λ (a : At g.row.B.Denot g.row.H.Denot). owed_at a p.ring.items) place
+          ∙ unowed_fed p.at c.feed_held-at.result p.intake p.held p.ring.items p.calls c.requires p.rests to,
+    )
 
 pub returns-in-NotYet-clause-once : goal.returns-in-NotYet-clause-once
-returns-in-NotYet-clause-once g c = record {
-  offers = c.in-NotYet.ensures.offers;
-  one = c.in-NotYet.ensures.keeps;
-  peer = refl;
-  local = refl;
-  lives = refl;
-  calls = refl;
-  replied = refl;
-  owed = refl;
-  taken = refl;
-  behind = (
-    ap (λ (a : At g.row.B.Denot g.row.H.Denot). state_at a) c.requires,
-    ap (λ (a : At g.row.B.Denot g.row.H.Denot). why_at a) c.requires,
-  );
-}
+returns-in-NotYet-clause-once g c =
+    let reading = ap (λ (a : At g.row.B.Denot g.row.H.Denot). state_at a) c.requires in
+    read_once read.NotYet state.Reading _ _ _ _ c.in-NotYet.ensures.offers c.in-NotYet.ensures.keeps refl refl refl refl refl refl reading
+    (reading, ap (λ (a : At g.row.B.Denot g.row.H.Denot). why_at a) c.requires, refl)
 
 pub returns-in-End-clause-once : goal.returns-in-End-clause-once
 returns-in-End-clause-once g c =
     let p = c.args.self.now in
     let place : c.put-in-End.new.at ≡ at.Over why.PeerEnd = c.put-in-End.ensures in
-    record {
-      offers = c.in-End.ensures.offers;
-      one = c.in-End.ensures.keeps;
-      peer = refl;
-      local = refl;
-      lives = refl;
-      calls = refl;
-      replied = ap (λ (a : At g.row.B.Denot g.row.H.Denot). replied_at a p.calls) place
-          ∙ sym (ap (λ (a : At g.row.B.Denot g.row.H.Denot). replied_at a p.calls) c.requires);
-      owed = ap (λ (a : At g.row.B.Denot g.row.H.Denot). owed_at a p.ring.items) place
-          ∙ unowed p.at p.intake p.held p.ring.items p.calls why.PeerEnd c.requires p.rests;
-      taken = refl;
-      behind = (
-        ap (λ (a : At g.row.B.Denot g.row.H.Denot). state_at a) place,
-        ap (λ (a : At g.row.B.Denot g.row.H.Denot). why_at a) place,
-      );
-    }
+    read_once read.End state.Reading _ _ _ _ c.in-End.ensures.offers c.in-End.ensures.keeps refl refl refl refl
+    (ap (λ (a : At g.row.B.Denot g.row.H.Denot). replied_at a p.calls) place
+    ∙ sym (ap (λ (a : At g.row.B.Denot g.row.H.Denot). replied_at a p.calls) c.requires))
+    refl (ap (λ (a : At g.row.B.Denot g.row.H.Denot). state_at a) c.requires) (
+      ap (λ (a : At g.row.B.Denot g.row.H.Denot). state_at a) place,
+      ap (λ (a : At g.row.B.Denot g.row.H.Denot). why_at a) place,
+    )
 
 pub returns-in-Failed-clause-once : goal.returns-in-Failed-clause-once
 returns-in-Failed-clause-once g c =
     let p = c.args.self.now in
     let place : c.put-in-Failed.new.at ≡ at.Over why.ReadFailed = c.put-in-Failed.ensures in
-    record {
-      offers = c.in-Failed.ensures.offers;
-      one = c.in-Failed.ensures.keeps;
-      peer = refl;
-      local = refl;
-      lives = refl;
-      calls = refl;
-      replied = ap (λ (a : At g.row.B.Denot g.row.H.Denot). replied_at a p.calls) place
-          ∙ sym (ap (λ (a : At g.row.B.Denot g.row.H.Denot). replied_at a p.calls) c.requires);
-      owed = ap (λ (a : At g.row.B.Denot g.row.H.Denot). owed_at a p.ring.items) place
-          ∙ unowed p.at p.intake p.held p.ring.items p.calls why.ReadFailed c.requires p.rests;
-      taken = refl;
-      behind = (
-        ap (λ (a : At g.row.B.Denot g.row.H.Denot). state_at a) place,
-        ap (λ (a : At g.row.B.Denot g.row.H.Denot). why_at a) place,
-      );
-    }
+    read_once read.Failed state.Reading _ _ _ _ c.in-Failed.ensures.offers c.in-Failed.ensures.keeps refl refl refl refl
+    (ap (λ (a : At g.row.B.Denot g.row.H.Denot). replied_at a p.calls) place
+    ∙ sym (ap (λ (a : At g.row.B.Denot g.row.H.Denot). replied_at a p.calls) c.requires))
+    refl (ap (λ (a : At g.row.B.Denot g.row.H.Denot). state_at a) c.requires) (
+      ap (λ (a : At g.row.B.Denot g.row.H.Denot). state_at a) place,
+      ap (λ (a : At g.row.B.Denot g.row.H.Denot). why_at a) place,
+    )

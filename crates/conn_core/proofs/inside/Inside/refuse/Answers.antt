@@ -1,18 +1,20 @@
 use Rattle.std.proofs.Common.{◌≡◌, ◌++◌, ℕ, List, refl, sym, ap, ◌∙◌}
 use Rattle.reply_framing.specs.Fault.{fault_reply}
 use Rattle.circular_buffer.specs.Buffer.{Buffer}
+use Rattle.talk_core.specs.Tail.{Voice}
 use Rattle.conn_core.specs.declared.place.At.TheVariants as at
 use Rattle.conn_core.specs.declared.place.At.{At}
 use Rattle.conn_core.specs.Holds.{kept}
 use Rattle.conn_core.specs.Place.{state_at}
-use Rattle.conn_core.specs.Shown.{replied_at, owed_at, why_at}
+use Rattle.conn_core.specs.Shown.{replied_at, owed_at, why_at, after_at, sure_at}
 use Rattle.conn_core.proofs.BeginLemmas.{named}
 use Rattle.conn_core.proofs.MoveLemmas.{refused_ring}
 use Rattle.conn_core.proofs.PlaceLemmas.{stands_place}
 use Rattle.conn_core.proofs.inside.Inside.refuse.Goals as goal
 
 pub returns-clause-holds : goal.returns-clause-holds
-returns-clause-holds g c = λ V T s h.
+returns-clause-holds g c = λ T s h.
+    let V : Voice g.row.H.Denot = record { says = g.H.Hijack.says; ends = g.H.Hijack.ends } in
     stands_place at.Refusing c.put.new.at V T s c.args.self.now.peer _ (sym c.put.ensures)
     (named V T s c.args.self.now.peer c.args.self.now.local (kept c.args.self.now) c.args.fault c.put_fault.new.ring.items
     (ap (λ (b : Buffer ℕ). b.items) c.put_fault.ensures)
@@ -32,5 +34,7 @@ returns-clause-names g c =
           ∙ sym (ap (λ (a : At g.row.B.Denot g.row.H.Denot). replied_at a p.calls) c.requires);
       state = ap (λ (a : At g.row.B.Denot g.row.H.Denot). state_at a) place;
       why = ap (λ (a : At g.row.B.Denot g.row.H.Denot). why_at a) place;
-      owed = (c.args.fault, ap (λ (a : At g.row.B.Denot g.row.H.Denot). owed_at a c.put_fault.new.ring.items) place ∙ ring);
+      owed = ap (λ (a : At g.row.B.Denot g.row.H.Denot). owed_at a c.put_fault.new.ring.items) place ∙ ring;
+      after = ap (λ (a : At g.row.B.Denot g.row.H.Denot). after_at a) place;
+      sure = ap (λ (a : At g.row.B.Denot g.row.H.Denot). sure_at a) place;
     }

@@ -1,25 +1,24 @@
+use Rattle.std.proofs.Common.{refl}
 use Rattle.conn_core.specs.Shown.{shows}
-use Rattle.conn_core.proofs.SaysLemmas.{says_behind, unwritten, once_behind, once_unwritten}
+use Rattle.conn_core.proofs.SaysLemmas.{says_behind, unwritten, once_behind}
 use Rattle.conn_core.proofs.inside.Inside.say.Goals as goal
 
 pub returns-then-fill-clause-says : goal.returns-then-fill-clause-says
 returns-then-fill-clause-says g c =
     let f = c.if-fill.ensures.fills in
     says_behind c.write.result (shows c.args.self.now) (shows c.fill.new.self) (shows c.write.new.self) (g.L.Link.seen c.args.link.now)
-    (g.L.Link.seen c.write.new.link) f.0 f.1 f.2 f.3 c.write.ensures.says
+    (g.L.Link.seen c.write.new.link) f c.write.ensures.says
 
 pub returns-else-fill-clause-says : goal.returns-else-fill-clause-says
 returns-else-fill-clause-says g c =
     let f = c.if-fill.ensures.fills in
-    unwritten (shows c.args.self.now) (shows c.fill.new.self) (g.L.Link.seen c.args.link.now) f.0 f.1 f.2 f.3
+    unwritten (shows c.args.self.now) (shows c.fill.new.self) (g.L.Link.seen c.args.link.now) f.2
 
 pub returns-then-fill-clause-once : goal.returns-then-fill-clause-once
 returns-then-fill-clause-once g c =
     let f = c.if-fill.ensures.fills in
     once_behind c.write.result (shows c.args.self.now) (shows c.fill.new.self) (shows c.write.new.self) (g.L.Link.seen c.args.link.now)
-    (g.L.Link.seen c.write.new.link) f.0 f.1 f.2 f.3 c.write.ensures.once
+    (g.L.Link.seen c.write.new.link) f c.write.ensures.once
 
 pub returns-else-fill-clause-once : goal.returns-else-fill-clause-once
-returns-else-fill-clause-once g c =
-    let f = c.if-fill.ensures.fills in
-    once_unwritten (shows c.args.self.now) (shows c.fill.new.self) (g.L.Link.seen c.args.link.now) f.0 f.1 f.2 f.3
+returns-else-fill-clause-once g c = let f = c.if-fill.ensures.fills in (refl, f.0, f.1, f.2)

@@ -1,39 +1,36 @@
-use Rattle.std.proofs.Common.{◌≡◌, ◌-◌, refl, arith, inl, inr}
-use Rattle.conn_core.specs.Shown.{shows}
-use Rattle.conn_core.proofs.MovingLemmas.{wants_memory}
+use Rattle.std.proofs.Common.{◌≡◌, ◌-◌, refl, ap, arith, inl, inr}
+use Rattle.talk_core.specs.Tail.{Voice}
+use Rattle.conn_core.specs.declared.place.At.{At}
+use Rattle.conn_core.specs.Shown.{fault_at}
+use Rattle.conn_core.proofs.MoveLemmas.{unrefused}
 use Rattle.conn_core.proofs.RetellLemmas.{no_run}
 use Rattle.conn_core.proofs.WorkLemmas.{over_falls}
 use Rattle.conn_core.proofs.inside.Inside.start.Goals as goal
 
 pub returns-else-answer : goal.returns-else-answer
 returns-else-answer g c = record {
-  holds = λ V T s by h. c.if-answer.ensures.holds V T s (λ r. by c.args.self.now.calls r) h;
-  any = λ V T s h. c.if-answer.ensures.any V T s h;
-  starts = record {
-    same = c.if-answer.ensures.starts.same;
-    calls = omega (arith, c.if-answer.ensures.starts.calls);
-    place = c.if-answer.ensures.starts.place;
-  };
-  takes = inr (
-    omega arith,
-    inr (wants_memory (shows c.args.self.now) (shows c.answer.new.self) c.if-answer.ensures.starts (c.if-answer.ensures.unrun refl)),
-  );
+  holds = λ T s by h. c.if-answer.ensures.holds T s (λ r. by c.args.self.now.calls r) h;
+  any = λ T s h. c.if-answer.ensures.any T s h;
+  takes = inr (omega arith, inr (unrefused c.args.self.now.at c.requires.ready c.in_default.not-Refused, c.if-answer.ensures.runs));
   left = refl;
   few = omega arith;
-  falls = over_falls c.args.left.now c.args.self.now.at c.answer.new.self.at c.requires.ready (c.if-answer.ensures.unrun refl);
+  falls = over_falls c.args.left.now c.args.self.now.at c.answer.new.self.at c.requires.ready c.if-answer.ensures.runs.state;
   counts = omega (arith, c.if-answer.ensures.counts);
   steady = c.if-answer.ensures.steady;
 }
 
 pub returns-in-Refused-clause-any : goal.returns-in-Refused-clause-any
-returns-in-Refused-clause-any g c = λ V T s h. no_run V T c.args.self.now.calls s c.refuse.new.self (c.refuse.ensures.holds V T s h)
+returns-in-Refused-clause-any g c = λ T s h.
+    let V : Voice g.row.H.Denot = record { says = g.H.Hijack.says; ends = g.H.Hijack.ends } in
+    no_run V T c.args.self.now.calls s c.refuse.new.self (c.refuse.ensures.holds T s h)
 
 pub returns-then-answer-clause-takes : goal.returns-then-answer-clause-takes
 returns-then-answer-clause-takes g c =
     let one : c.args.left.now.runs - (c.args.left.now.runs - 1) ≡ 1 = omega (arith, c.requires.left) in
-    inl (one, c.if-answer.ensures.starts)
+    inl (one, unrefused c.args.self.now.at c.requires.ready c.in_default.not-Refused, c.if-answer.ensures.runs)
 
 pub returns-in-Refused-clause-takes : goal.returns-in-Refused-clause-takes
 returns-in-Refused-clause-takes g c =
     let none : c.args.left.now.runs - c.args.left.now.runs ≡ 0 = omega arith in
-    inr (none, inl c.refuse.ensures.names)
+    let stands = ap (λ (a : At g.row.B.Denot g.row.H.Denot). fault_at a) c.in-Refused.is in
+    inr (none, inl (c.in-Refused.fault, stands, c.refuse.ensures.names))

@@ -1,27 +1,22 @@
-use Rattle.std.proofs.Common.{◌≡◌, ◌+◌, ◌-◌, ℕ, true, false, List, length, arith, refl, ap, sym, ◌∙◌, None, ◌⊎◌, inl, inr}
+use Rattle.std.proofs.Common.{◌≡◌, ℕ, true, false, List, length, refl, ap, sym, ◌∙◌, None, inl, inr}
 use Rattle.rack_outside.specs.declared.link.LinkRead.TheVariants as read
-use Rattle.rack_outside.specs.declared.link.LinkWrite.TheVariants as write
 use Rattle.talk_core.specs.Counts.{counted_by}
-use Rattle.conn_core.specs.declared.left.Said.TheVariants as said
+use Rattle.talk_core.specs.Tail.{Voice}
 use Rattle.conn_core.specs.declared.state.State.TheVariants as state
 use Rattle.conn_core.specs.Place.{state_at as place_as}
 use Rattle.conn_core.specs.Shown.{shows, why_at}
 use Rattle.conn_core.proofs.RetellLemmas.{no_run}
 use Rattle.conn_core.proofs.ShownLemmas.{counted_sum}
-use Rattle.conn_core.proofs.TurnLemmas.{unspent, nothing_read, stays, read_steps, start_steps, say_steps, no_why_at, is_below}
-use Rattle.conn_core.proofs.MoveLemmas.{owes_rightly}
-use Rattle.conn_core.proofs.MovingLemmas.{is_open, may_write, takes_makes, ended_read, read_makes, want_makes, write_makes, over_stops, spent_stops, unwritten_stops}
+use Rattle.conn_core.proofs.TurnLemmas.{unspent, nothing_read, stays, read_steps, start_steps, no_why_at}
+use Rattle.conn_core.proofs.MoveLemmas.{owes_rightly, hearing_owes, silent_hears}
+use Rattle.conn_core.proofs.MovingLemmas.{is_open, takes_makes, ended_read, read_makes, over_stops, handed_stops, spent_stops}
 use Rattle.conn_core.proofs.inside.Inside.step.Goals as goal
-use Rattle.conn_core.proofs.inside.Inside.step.Goals.{then-left-eq0-via-then-left-eq0, then-left-eq0-via-else-left-eq0+then-left-eq0-2}
 
 pub returns-then-is_spent-clause-steps : goal.returns-then-is_spent-clause-steps
 returns-then-is_spent-clause-steps g c = stays (shows c.args.self.now) (g.L.Link.seen c.args.link.now) c.args.left.now
 
 pub returns-then-is_spent-2-clause-steps : goal.returns-then-is_spent-2-clause-steps
 returns-then-is_spent-2-clause-steps g c = stays (shows c.args.self.now) (g.L.Link.seen c.args.link.now) c.args.left.now
-
-pub returns-then-left-eq0-clause-steps : goal.returns-then-left-eq0-clause-steps
-returns-then-left-eq0-clause-steps g c = stays (shows c.args.self.now) (g.L.Link.seen c.args.link.now) c.args.left.now
 
 pub returns-in-Over-clause-steps : goal.returns-in-Over-clause-steps
 returns-in-Over-clause-steps g c = stays (shows c.args.self.now) (g.L.Link.seen c.args.link.now) c.args.left.now
@@ -62,58 +57,22 @@ returns-else-is_spent-2-clause-steps g c =
     let ready : place_as c.args.self.now.at ≡ state.Ready = sym c.state_at.ensures ∙ c.in-Ready.is in
     let none : why_at c.args.self.now.at ≡ None = no_why_at c.args.self.now.at state.Ready ready (λ e. cc) in
     start_steps (shows c.args.self.now) (shows c.start.new.self) (g.L.Link.seen c.args.link.now) c.args.left.now c.start.new.left
-    c.start.ensures.starts c.start.ensures.left c.start.ensures.few ready none
-
-pub returns-in-Unwritten-clause-steps : goal.returns-in-Unwritten-clause-steps
-returns-in-Unwritten-clause-steps g c =
-    let n = c.say.new.self in
-    let saying : place_as c.args.self.now.at ≡ state.Answering = sym c.state_at.ensures ∙ c.in-Answering.is in
-    let none : why_at c.args.self.now.at ≡ None = no_why_at c.args.self.now.at state.Answering saying (λ e. cc) in
-    let same : c.args.left.now.writes + 0 ≡ c.args.left.now.writes = omega arith in
-    say_steps said.Unwritten (shows c.args.self.now) (shows n) (g.L.Link.seen c.args.link.now) (g.L.Link.seen c.say.new.link)
-    c.args.left.now c.args.left.now.writes c.in-Unwritten.ensures.says same saying none (is_below n.at n.intake n.held n.ring.items n.calls n.rests)
-
-pub returns-in-Wrote-clause-steps : goal.returns-in-Wrote-clause-steps
-returns-in-Wrote-clause-steps g c =
-    let n = c.say.new.self in
-    let saying : place_as c.args.self.now.at ≡ state.Answering = sym c.state_at.ensures ∙ c.in-Answering.is in
-    let none : why_at c.args.self.now.at ≡ None = no_why_at c.args.self.now.at state.Answering saying (λ e. cc) in
-    let fewer : (c.args.left.now.writes - 1) + 1 ≡ c.args.left.now.writes = omega (arith, c.if-left-eq0-2.false) in
-    say_steps said.Wrote (shows c.args.self.now) (shows n) (g.L.Link.seen c.args.link.now) (g.L.Link.seen c.say.new.link)
-    c.args.left.now (c.args.left.now.writes - 1) c.in-Wrote.ensures.says fewer saying none (is_below n.at n.intake n.held n.ring.items n.calls n.rests)
-
-pub returns-in-Waits-clause-steps : goal.returns-in-Waits-clause-steps
-returns-in-Waits-clause-steps g c =
-    let n = c.say.new.self in
-    let saying : place_as c.args.self.now.at ≡ state.Answering = sym c.state_at.ensures ∙ c.in-Answering.is in
-    let none : why_at c.args.self.now.at ≡ None = no_why_at c.args.self.now.at state.Answering saying (λ e. cc) in
-    let fewer : (c.args.left.now.writes - 1) + 1 ≡ c.args.left.now.writes = omega (arith, c.if-left-eq0-2.false) in
-    say_steps said.Waits (shows c.args.self.now) (shows n) (g.L.Link.seen c.args.link.now) (g.L.Link.seen c.say.new.link)
-    c.args.left.now (c.args.left.now.writes - 1) c.in-Waits.ensures.says fewer saying none (is_below n.at n.intake n.held n.ring.items n.calls n.rests)
+    c.start.ensures.takes c.start.ensures.left c.start.ensures.few ready none
 
 pub returns-in-NotYet-clause-any : goal.returns-in-NotYet-clause-any
-returns-in-NotYet-clause-any g c = λ V T h.
-    no_run V T c.args.self.now.calls (g.L.Link.seen c.read.new.link) c.read.new.self (c.read.ensures.holds V T h)
+returns-in-NotYet-clause-any g c = λ T h.
+    let V : Voice g.row.H.Denot = record { says = g.H.Hijack.says; ends = g.H.Hijack.ends } in
+    no_run V T c.args.self.now.calls (g.L.Link.seen c.read.new.link) c.read.new.self (c.read.ensures.holds T h)
 
 pub returns-in-Bytes-clause-any : goal.returns-in-Bytes-clause-any
-returns-in-Bytes-clause-any g c = λ V T h.
-    no_run V T c.args.self.now.calls (g.L.Link.seen c.read.new.link) c.read.new.self (c.read.ensures.holds V T h)
+returns-in-Bytes-clause-any g c = λ T h.
+    let V : Voice g.row.H.Denot = record { says = g.H.Hijack.says; ends = g.H.Hijack.ends } in
+    no_run V T c.args.self.now.calls (g.L.Link.seen c.read.new.link) c.read.new.self (c.read.ensures.holds T h)
 
 pub returns-in-End-clause-any : goal.returns-in-End-clause-any
-returns-in-End-clause-any g c = λ V T h.
-    no_run V T c.args.self.now.calls (g.L.Link.seen c.read.new.link) c.read.new.self (c.read.ensures.holds V T h)
-
-pub returns-in-Unwritten-clause-any : goal.returns-in-Unwritten-clause-any
-returns-in-Unwritten-clause-any g c = λ V T h.
-    no_run V T c.args.self.now.calls (g.L.Link.seen c.say.new.link) c.say.new.self (c.say.ensures.holds V T h)
-
-pub returns-in-Wrote-clause-any : goal.returns-in-Wrote-clause-any
-returns-in-Wrote-clause-any g c = λ V T h.
-    no_run V T c.args.self.now.calls (g.L.Link.seen c.say.new.link) c.say.new.self (c.say.ensures.holds V T h)
-
-pub returns-in-Waits-clause-any : goal.returns-in-Waits-clause-any
-returns-in-Waits-clause-any g c = λ V T h.
-    no_run V T c.args.self.now.calls (g.L.Link.seen c.say.new.link) c.say.new.self (c.say.ensures.holds V T h)
+returns-in-End-clause-any g c = λ T h.
+    let V : Voice g.row.H.Denot = record { says = g.H.Hijack.says; ends = g.H.Hijack.ends } in
+    no_run V T c.args.self.now.calls (g.L.Link.seen c.read.new.link) c.read.new.self (c.read.ensures.holds T h)
 
 pub returns-then-is_spent-clause-moves : goal.returns-then-is_spent-clause-moves
 returns-then-is_spent-clause-moves g c =
@@ -133,28 +92,10 @@ returns-then-is_spent-2-clause-moves g c =
       spent_stops (shows c.args.self.now) (g.L.Link.seen c.args.link.now) c.args.left.now (inr ready) (c.is_spent-in-Ready.ensures.0 c.if-is_spent-2.true),
     )
 
-pub returns-then-left-eq0-clause-moves : goal.returns-then-left-eq0-clause-moves
-returns-then-left-eq0-clause-moves g c =
-    let saying : place_as c.args.self.now.at ≡ state.Answering = sym c.state_at.ensures ∙ c.in-Answering.is in
-    let none : (c.args.left.now.reads ≡ 0) ⊎ (c.args.left.now.writes ≡ 0) =
-    elim c.then-left-eq0.branch [
-      | then-left-eq0-via-then-left-eq0 w ↦ inl w.if-left-eq0.true
-      | then-left-eq0-via-else-left-eq0+then-left-eq0-2 w ↦ inr w.if-left-eq0-2.true
-    ] in (
-      refl,
-      refl,
-      refl,
-      unwritten_stops (shows c.args.self.now) (g.L.Link.seen c.args.link.now) c.args.left.now saying none,
-    )
-
 pub returns-in-Over-clause-moves : goal.returns-in-Over-clause-moves
-returns-in-Over-clause-moves g c = (
-  refl,
-  refl,
-  refl,
-  over_stops (shows c.args.self.now) (g.L.Link.seen c.args.link.now) c.args.left.now
-      (elim c.in-Over.is [ inl x ↦ inl (sym c.state_at.ensures ∙ x) | inr x ↦ inr (sym c.state_at.ensures ∙ x) ]),
-)
+returns-in-Over-clause-moves g c =
+    let over : place_as c.args.self.now.at ≡ state.Over = sym c.state_at.ensures ∙ c.in-Over.is in
+    (refl, refl, refl, over_stops (shows c.args.self.now) (g.L.Link.seen c.args.link.now) c.args.left.now over)
 
 pub returns-in-NotYet-clause-moves : goal.returns-in-NotYet-clause-moves
 returns-in-NotYet-clause-moves g c =
@@ -185,24 +126,28 @@ returns-else-is_spent-2-clause-moves g c =
     c.start.ensures.takes c.start.ensures.left c.start.ensures.few ready (is_open (shows c.args.self.now) (g.L.Link.seen c.args.link.now) c.args.left.now some)
     (owes_rightly c.start.new.self)
 
-pub returns-in-Unwritten-clause-moves : goal.returns-in-Unwritten-clause-moves
-returns-in-Unwritten-clause-moves g c =
-    let saying : place_as c.args.self.now.at ≡ state.Answering = sym c.state_at.ensures ∙ c.in-Answering.is in
-    let may = may_write (shows c.args.self.now) (g.L.Link.seen c.args.link.now) c.args.left.now c.if-left-eq0.false c.if-left-eq0-2.false in
-    want_makes (shows c.args.self.now) (shows c.say.new.self) (g.L.Link.seen c.args.link.now) (g.L.Link.seen c.say.new.link) c.args.left.now
-    c.in-Unwritten.ensures.once saying may (owes_rightly c.say.new.self)
+pub returns-else-is_saying-clause-steps : goal.returns-else-is_saying-clause-steps
+returns-else-is_saying-clause-steps g c = stays (shows c.args.self.now) (g.L.Link.seen c.args.link.now) c.args.left.now
 
-pub returns-in-Wrote-clause-moves : goal.returns-in-Wrote-clause-moves
-returns-in-Wrote-clause-moves g c =
-    let saying : place_as c.args.self.now.at ≡ state.Answering = sym c.state_at.ensures ∙ c.in-Answering.is in
-    let may = may_write (shows c.args.self.now) (g.L.Link.seen c.args.link.now) c.args.left.now c.if-left-eq0.false c.if-left-eq0-2.false in
-    let once = c.in-Wrote.ensures.once in
-    write_makes once.0 (shows c.args.self.now) (shows c.say.new.self) (g.L.Link.seen c.args.link.now) (g.L.Link.seen c.say.new.link) c.args.left.now
-    false once.1 once.2 saying may (owes_rightly c.say.new.self)
+pub returns-else-is_saying-clause-moves : goal.returns-else-is_saying-clause-moves
+returns-else-is_saying-clause-moves g c =
+    let held : place_as c.args.self.now.at ≡ state.Hijacked = sym c.state_at.ensures ∙ c.in-Hijacked.is in
+    let hears = silent_hears c.args.self.now.at c.is_saying.result held c.is_saying.ensures c.if-is_saying.false in
+    let owes = hearing_owes c.args.self.now hears in
+    (refl, refl, refl, handed_stops (shows c.args.self.now) (g.L.Link.seen c.args.link.now) c.args.left.now owes.0 owes.1)
 
-pub returns-in-Waits-clause-moves : goal.returns-in-Waits-clause-moves
-returns-in-Waits-clause-moves g c =
-    let saying : place_as c.args.self.now.at ≡ state.Answering = sym c.state_at.ensures ∙ c.in-Answering.is in
-    let may = may_write (shows c.args.self.now) (g.L.Link.seen c.args.link.now) c.args.left.now c.if-left-eq0.false c.if-left-eq0-2.false in
-    write_makes write.NotYet (shows c.args.self.now) (shows c.say.new.self) (g.L.Link.seen c.args.link.now) (g.L.Link.seen c.say.new.link) c.args.left.now
-    true refl c.in-Waits.ensures.once saying may (owes_rightly c.say.new.self)
+pub returns-else-is_saying-clause-leaves : goal.returns-else-is_saying-clause-leaves
+returns-else-is_saying-clause-leaves g c =
+    let held : place_as c.args.self.now.at ≡ state.Hijacked = sym c.state_at.ensures ∙ c.in-Hijacked.is in
+    let hears = silent_hears c.args.self.now.at c.is_saying.result held c.is_saying.ensures c.if-is_saying.false in
+    inr (inl hears)
+
+pub returns-then-is_saying-clause-any : goal.returns-then-is_saying-clause-any
+returns-then-is_saying-clause-any g c = λ T h.
+    let V : Voice g.row.H.Denot = record { says = g.H.Hijack.says; ends = g.H.Hijack.ends } in
+    no_run V T c.args.self.now.calls (g.L.Link.seen c.speak.new.link) c.speak.new.self (c.speak.ensures.holds T h)
+
+pub returns-in-Answering-clause-any : goal.returns-in-Answering-clause-any
+returns-in-Answering-clause-any g c = λ T h.
+    let V : Voice g.row.H.Denot = record { says = g.H.Hijack.says; ends = g.H.Hijack.ends } in
+    no_run V T c.args.self.now.calls (g.L.Link.seen c.speak-in-Answering.new.link) c.speak-in-Answering.new.self (c.speak-in-Answering.ensures.holds T h)

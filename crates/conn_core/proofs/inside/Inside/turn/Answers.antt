@@ -1,8 +1,9 @@
 use Rattle.std.proofs.Common.{◌≡◌, ◌+◌, ◌≤◌, false, ltb, refl, arith, ap, ◌∙◌}
+use Rattle.talk_core.specs.Tail.{Voice}
 use Rattle.conn_core.specs.declared.left.Left.{Left}
 use Rattle.conn_core.specs.Inner.{left_at}
 use Rattle.conn_core.specs.Shown.{shows, replied_at}
-use Rattle.conn_core.proofs.MoveLemmas.{owes_rightly}
+use Rattle.conn_core.proofs.MoveLemmas.{owes_rightly, hearing_owes}
 use Rattle.conn_core.proofs.MovingLemmas.{full, moving_start, moving_step, moving_end}
 use Rattle.conn_core.proofs.RetellLemmas.{more_runs}
 use Rattle.conn_core.proofs.TurnLemmas.{turning_start, turning_step, turning_end, step_stops, risen, tells_same}
@@ -10,18 +11,18 @@ use Rattle.conn_core.proofs.inside.Inside.turn.Goals as goal
 
 pub loop-self-init : goal.loop-self-init
 loop-self-init g c = record {
-  holds = λ e V T tells h. c.start.ensures.holds V T (g.L.Link.seen c.args.link.now) tells h;
-  any = λ V T h. c.start.ensures.any V T (g.L.Link.seen c.args.link.now) h;
+  holds = λ e T tells h. c.start.ensures.holds T (g.L.Link.seen c.args.link.now) tells h;
+  any = λ T h. c.start.ensures.any T (g.L.Link.seen c.args.link.now) h;
   turning = turning_start (shows c.args.self.now) (shows c.start.new.self) (g.L.Link.seen c.args.link.now) c.new-left.result c.start.new.left
-      c.new-left.ensures c.start.ensures.starts c.start.ensures.left c.start.ensures.few;
+      c.new-left.ensures c.start.ensures.takes c.start.ensures.left c.start.ensures.few;
   moving = moving_start (shows c.args.self.now) (shows c.start.new.self) (g.L.Link.seen c.args.link.now) c.new-left.result c.start.new.left
       c.new-left.ensures c.start.ensures.takes c.start.ensures.left c.start.ensures.few c.requires.ready (owes_rightly c.start.new.self);
   counts = c.start.ensures.counts ∙ ap (λ (l : Left). g.R.Runner.runs c.args.runner.now + l.runs) c.new-left.ensures;
   steady = c.start.ensures.steady;
 }
 
-pub step-requires-clause-room : goal.step-requires-clause-room
-step-requires-clause-room g c = omega (arith, c.loop-self.invariant.counts, c.requires.room)
+pub step-requires : goal.step-requires
+step-requires g c = omega (arith, c.loop-self.invariant.counts, c.requires.room)
 
 pub loop-self-smaller : goal.loop-self-smaller
 loop-self-smaller g c = c.in-GoesOn.ensures.leaves
@@ -32,14 +33,14 @@ loop-self-preserved g c =
     let grew : c.args.self.now.calls ≤ c.loop-self.self.calls = omega (arith, i.turning.calls, i.turning.few) in
     let counts : g.R.Runner.runs c.step.new.runner + c.step.new.left.runs ≡ g.R.Runner.runs c.args.runner.now + 10 = c.step.ensures.counts ∙ i.counts in
     record {
-      holds = λ e V T tells h.
-          c.step.ensures.holds V T
+      holds = λ e T tells h.
+          c.step.ensures.holds T
           (tells_same T (g.R.Runner.answer c.args.runner.now) (g.R.Runner.answer c.loop-self.runner) c.args.self.now.local c.loop-self.self.local
           c.args.self.now.peer c.loop-self.self.peer (i.steady e) i.turning.moved.local i.turning.moved.peer tells)
-          (i.holds e V T tells h);
-      any = λ V T h.
-          more_runs V T c.args.self.now.calls c.loop-self.self.calls (g.L.Link.seen c.loop-self.link) (g.L.Link.seen c.step.new.link) c.loop-self.self c.step.new.self
-          grew (i.any V T h) (λ U u. c.step.ensures.any V U u);
+          (i.holds e T tells h);
+      any = λ T h.
+          more_runs (record { says = g.H.Hijack.says; ends = g.H.Hijack.ends }) T c.args.self.now.calls c.loop-self.self.calls (g.L.Link.seen c.loop-self.link) (g.L.Link.seen c.step.new.link) c.loop-self.self c.step.new.self
+          grew (i.any T h) (λ U u. c.step.ensures.any U u);
       turning = turning_step (shows c.args.self.now) (shows c.loop-self.self) (shows c.step.new.self) (g.L.Link.seen c.args.link.now)
           (g.L.Link.seen c.loop-self.link) (g.L.Link.seen c.step.new.link) c.loop-self.left c.step.new.left i.turning c.step.ensures.steps;
       moving = moving_step (left_at (shows c.args.self.now) (g.L.Link.seen c.args.link.now) full false)
@@ -50,20 +51,21 @@ loop-self-preserved g c =
     }
 
 pub returns-in-Waits-clause-holds : goal.returns-in-Waits-clause-holds
-returns-in-Waits-clause-holds g c = λ e V T tells h.
+returns-in-Waits-clause-holds g c = λ e T tells h.
     let i = c.loop-self.invariant in
-    c.step.ensures.holds V T
+    c.step.ensures.holds T
     (tells_same T (g.R.Runner.answer c.args.runner.now) (g.R.Runner.answer c.loop-self.runner) c.args.self.now.local c.loop-self.self.local
     c.args.self.now.peer c.loop-self.self.peer (i.steady e) i.turning.moved.local i.turning.moved.peer tells)
-    (i.holds e V T tells h)
+    (i.holds e T tells h)
 
 pub returns-in-Waits-clause-turns : goal.returns-in-Waits-clause-turns
 returns-in-Waits-clause-turns g c =
     let i = c.loop-self.invariant in
     let turning = turning_step (shows c.args.self.now) (shows c.loop-self.self) (shows c.step.new.self) (g.L.Link.seen c.args.link.now)
     (g.L.Link.seen c.loop-self.link) (g.L.Link.seen c.step.new.link) c.loop-self.left c.step.new.left i.turning c.step.ensures.steps in
-    let stopped = step_stops c.step.result c.loop-self.left c.step.new.left c.loop-self.self.at c.step.new.self.at (g.L.Link.seen c.args.link.now)
-    (g.L.Link.seen c.loop-self.link) (g.L.Link.seen c.step.new.link) c.in-Waits.is c.step.ensures.leaves i.turning.moved.waits in
+    let stopped = step_stops c.step.result c.loop-self.left c.step.new.left c.loop-self.self.at c.step.new.self.at (shows c.step.new.self)
+    (g.L.Link.seen c.args.link.now) (g.L.Link.seen c.loop-self.link) (g.L.Link.seen c.step.new.link) c.in-Waits.is c.step.ensures.leaves
+    i.turning.moved.waits refl (hearing_owes c.step.new.self) in
     let got = risen c.replied_at-replied.result c.replied_at.result (replied_at c.args.self.now.at c.args.self.now.calls)
     (replied_at c.step.new.self.at c.step.new.self.calls) c.replied_at-replied.ensures c.replied_at.ensures in
     let made = moving_end c.step.result (shows c.args.self.now) (shows c.loop-self.self) (shows c.step.new.self) (g.L.Link.seen c.args.link.now)
@@ -81,8 +83,9 @@ pub returns-in-Waits-clause-steady : goal.returns-in-Waits-clause-steady
 returns-in-Waits-clause-steady g c = λ e ps input. c.step.ensures.steady e ps input ∙ c.loop-self.invariant.steady e ps input
 
 pub returns-in-Waits-clause-any : goal.returns-in-Waits-clause-any
-returns-in-Waits-clause-any g c = λ V T h.
+returns-in-Waits-clause-any g c = λ T h.
+    let V : Voice g.row.H.Denot = record { says = g.H.Hijack.says; ends = g.H.Hijack.ends } in
     let i = c.loop-self.invariant in
     let grew : c.args.self.now.calls ≤ c.loop-self.self.calls = omega (arith, i.turning.calls, i.turning.few) in
     more_runs V T c.args.self.now.calls c.loop-self.self.calls (g.L.Link.seen c.loop-self.link) (g.L.Link.seen c.step.new.link) c.loop-self.self c.step.new.self
-    grew (i.any V T h) (λ U u. c.step.ensures.any V U u)
+    grew (i.any T h) (λ U u. c.step.ensures.any U u)

@@ -1,8 +1,9 @@
-use Rattle.std.proofs.Common.{◌≡◌, ◌≤◌, ℕ, List, [], length, take, refl, sym, ap, subst, ◌∙◌, arith}
+use Rattle.std.proofs.Common.{◌≡◌, ◌<◌, ◌≤◌, ℕ, List, [], length, take, refl, sym, ap, subst, ◌∙◌, arith}
 use Rattle.std.proofs.lemmas.Bool.Decides.{nat_tests}
 use Rattle.std.proofs.lemmas.List.{nil_from_length}
 use Rattle.rack_outside.specs.declared.link.LinkWrite.TheVariants as write
 use Rattle.talk_core.specs.declared.ended.Why.TheVariants as why
+use Rattle.talk_core.specs.Tail.{Voice}
 use Rattle.conn_core.specs.declared.place.At.{At}
 use Rattle.conn_core.specs.declared.place.At.TheVariants as at
 use Rattle.conn_core.specs.Holds.{kept}
@@ -12,43 +13,46 @@ use Rattle.conn_core.specs.Shown.{owed_at, why_at}
 use Rattle.conn_core.specs.Steps.{CompletesTo}
 use Rattle.conn_core.proofs.CompleteLemmas.{completes_hold}
 use Rattle.conn_core.proofs.PlaceLemmas.{stands_place}
-use Rattle.conn_core.proofs.SaidLemmas.{moved_by_write, filled_says, filled_ring, filled_state, SaidShown, said_on, said_over, said_whole, waiting_shown}
+use Rattle.conn_core.proofs.SaidLemmas.{moved_by_write, filled_says, filled_ring, filled_owes, SaidShown, said_on, said_over, said_whole, waiting_shown}
 use Rattle.conn_core.proofs.SayLemmas.{took, write_failed, with_ring}
-use Rattle.conn_core.proofs.MoveLemmas.{fills_front, owed_left, filled_shown, took_on, TookAll, took_all}
+use Rattle.conn_core.proofs.MoveLemmas.{some_not, fills_front, took_some, took_none, took_all}
 use Rattle.conn_core.proofs.SaysLemmas.{wrote_once}
 use Rattle.conn_core.proofs.inside.Inside.write.Goals as goal
 
 pub returns-then-is_empty-clause-holds : goal.returns-then-is_empty-clause-holds
-returns-then-is_empty-clause-holds g c = λ V T h.
+returns-then-is_empty-clause-holds g c = λ T h.
+    let V : Voice g.row.H.Denot = record { says = g.H.Hijack.says; ends = g.H.Hijack.ends } in
     let s = g.L.Link.seen c.args.link.now in
     let s' = g.L.Link.seen c.send.new.link in
     let p = c.args.self.now in
     let none : c.send.new.ring.items ≡ [] =
     nil_from_length c.send.new.ring.items (grind (arith, nat_tests, c.is_empty.ensures, c.if-is_empty.true)) in
-    let completes : CompletesTo p.at p.intake p.held c.complete-at.result c.complete-at.new.intake c.complete-at.new.held =
-    subst (λ (a : At g.row.B.Denot g.row.H.Denot). CompletesTo a p.intake p.held c.complete-at.result c.complete-at.new.intake c.complete-at.new.held)
-    c.replace-at.ensures.value c.complete-at.ensures in
+    let completes : CompletesTo V p.at p.intake p.held c.complete-at.result c.complete-at.new.intake c.complete-at.new.held c.complete-at.new.ring.items =
+    subst (λ (a : At g.row.B.Denot g.row.H.Denot). CompletesTo V a p.intake p.held c.complete-at.result c.complete-at.new.intake c.complete-at.new.held
+    c.complete-at.new.ring.items) c.replace-at.ensures.value c.complete-at.ensures.completes in
     stands_place c.complete-at.result c.put.new.at V T s' p.peer _ (sym c.put.ensures)
     (completes_hold V T s' p.peer (with_ring (kept p) c.send.new.ring.items) c.complete-at.new.intake c.complete-at.new.held p.ring.items
-    c.send.new.ring.items p.at c.complete-at.result none refl completes c.requires
+    c.complete-at.new.ring.items p.at c.complete-at.result none completes c.requires
     (took p.at V T s s' p.peer (kept p) (filled_says p.at p.ring.items c.requires) c.in-Took.ensures.keeps c.in-Took.ensures.sends.0
     c.send.new.ring.items c.in-Took.ensures.sends.1 c.in-Took.ensures.sends.3 h))
 
 pub returns-then-is_empty-clause-says : goal.returns-then-is_empty-clause-says
 returns-then-is_empty-clause-says g c =
+    let V : Voice g.row.H.Denot = record { says = g.H.Hijack.says; ends = g.H.Hijack.ends } in
     let s = g.L.Link.seen c.args.link.now in
     let s' = g.L.Link.seen c.send.new.link in
     let p = c.args.self.now in
     let none : c.send.new.ring.items ≡ [] =
     nil_from_length c.send.new.ring.items (grind (arith, nat_tests, c.is_empty.ensures, c.if-is_empty.true)) in
-    let completes : CompletesTo p.at p.intake p.held c.complete-at.result c.complete-at.new.intake c.complete-at.new.held =
-    subst (λ (a : At g.row.B.Denot g.row.H.Denot). CompletesTo a p.intake p.held c.complete-at.result c.complete-at.new.intake c.complete-at.new.held)
-    c.replace-at.ensures.value c.complete-at.ensures in
-    let shown : SaidShown p.at c.put.new.at p.ring.items c.send.new.ring.items p.calls s s' =
-    subst (λ (x : List ℕ). SaidShown p.at c.put.new.at p.ring.items x p.calls s s') (sym none)
-    (subst (λ (b : At g.row.B.Denot g.row.H.Denot). SaidShown p.at b p.ring.items [] p.calls s s') (sym c.put.ensures)
-    (said_whole p.at c.complete-at.result p.ring.items p.calls s s' p.intake c.complete-at.new.intake p.held c.complete-at.new.held
-    completes c.requires p.rests c.in-Took.ensures.keeps.over)) in
+    let left = c.complete-at.new.held in
+    let ring = c.complete-at.new.ring.items in
+    let completes : CompletesTo V p.at p.intake p.held c.put.new.at c.complete-at.new.intake left ring =
+    subst (λ (b : At g.row.B.Denot g.row.H.Denot). CompletesTo V p.at p.intake p.held b c.complete-at.new.intake left ring) (sym c.put.ensures)
+    (subst (λ (a : At g.row.B.Denot g.row.H.Denot). CompletesTo V a p.intake p.held c.complete-at.result c.complete-at.new.intake left ring)
+    c.replace-at.ensures.value c.complete-at.ensures.completes) in
+    let shown : SaidShown p.at c.put.new.at p.ring.items ring p.calls s s' =
+    said_whole V p.at c.put.new.at p.ring.items ring p.calls s s' p.intake c.complete-at.new.intake p.held left completes c.requires p.rests
+    c.in-Took.ensures.keeps.over in
     record {
       moved = moved_by_write _ _ s s' refl refl refl c.in-Took.ensures.keeps refl;
       came = refl;
@@ -61,7 +65,8 @@ returns-then-is_empty-clause-says g c =
     }
 
 pub returns-else-is_empty-clause-holds : goal.returns-else-is_empty-clause-holds
-returns-else-is_empty-clause-holds g c = λ V T h.
+returns-else-is_empty-clause-holds g c = λ T h.
+    let V : Voice g.row.H.Denot = record { says = g.H.Hijack.says; ends = g.H.Hijack.ends } in
     let s = g.L.Link.seen c.args.link.now in
     let s' = g.L.Link.seen c.send.new.link in
     let p = c.args.self.now in
@@ -93,6 +98,10 @@ returns-in-NotYet-clause-says g c =
     let s' = g.L.Link.seen c.send.new.link in
     let p = c.args.self.now in
     let shown = waiting_shown p.at p.ring.items p.calls s s' c.requires c.in-NotYet.ensures.keeps.over in
+    let owed : length (owed_at p.at c.send.new.ring.items) ≤ length (owed_at p.at p.ring.items) =
+    subst (λ (x : List ℕ). length (owed_at p.at x) ≤ length (owed_at p.at p.ring.items)) (sym c.in-NotYet.ensures.sends.0) (omega arith) in
+    let some : 0 < length c.send.new.ring.items =
+    subst (λ (x : List ℕ). 0 < length x) (sym c.in-NotYet.ensures.sends.0) (filled_ring p.at p.ring.items c.requires) in
     record {
       moved = moved_by_write _ _ s s' refl refl refl c.in-NotYet.ensures.keeps refl;
       came = refl;
@@ -102,14 +111,16 @@ returns-in-NotYet-clause-says g c =
       why = shown.1;
       ends = shown.2;
       leaves = (
-        filled_state p.at p.ring.items c.requires,
+        refl,
         c.in-NotYet.ensures.sends.2,
-        subst (λ (x : List ℕ). length (owed_at p.at x) ≤ length (owed_at p.at p.ring.items)) (sym c.in-NotYet.ensures.sends.0) (omega arith),
+        owed,
+        some_not (owed_at p.at c.send.new.ring.items) (filled_owes p.at p.ring.items c.send.new.ring.items c.requires some),
       );
     }
 
 pub returns-in-Failed-clause-holds : goal.returns-in-Failed-clause-holds
-returns-in-Failed-clause-holds g c = λ V T h.
+returns-in-Failed-clause-holds g c = λ T h.
+    let V : Voice g.row.H.Denot = record { says = g.H.Hijack.says; ends = g.H.Hijack.ends } in
     let s = g.L.Link.seen c.args.link.now in
     let s' = g.L.Link.seen c.send.new.link in
     let p = c.args.self.now in
@@ -124,7 +135,8 @@ returns-in-Failed-clause-says g c =
     let p = c.args.self.now in
     let shown : SaidShown p.at c.put-in-Failed.new.at p.ring.items c.send.new.ring.items p.calls s s' =
     subst (λ (b : At g.row.B.Denot g.row.H.Denot). SaidShown p.at b p.ring.items c.send.new.ring.items p.calls s s') (sym c.put-in-Failed.ensures)
-    (said_over p.at why.WriteFailed p.ring.items c.send.new.ring.items p.calls s s' tt (c.in-Failed.ensures.keeps.over, c.in-Failed.ensures.sends.2)) in
+    (said_over p.at why.WriteFailed p.ring.items c.send.new.ring.items p.calls s s' c.requires tt
+    (c.in-Failed.ensures.keeps.over, c.in-Failed.ensures.sends.2)) in
     record {
       moved = moved_by_write _ _ s s' refl refl refl c.in-Failed.ensures.keeps refl;
       came = refl;
@@ -143,7 +155,7 @@ returns-in-NoMemory-clause-says g c =
     let p = c.args.self.now in
     let shown : SaidShown p.at c.put-in-NoMemory.new.at p.ring.items c.send.new.ring.items p.calls s s' =
     subst (λ (b : At g.row.B.Denot g.row.H.Denot). SaidShown p.at b p.ring.items c.send.new.ring.items p.calls s s') (sym c.put-in-NoMemory.ensures)
-    (said_over p.at why.NoMemory p.ring.items c.send.new.ring.items p.calls s s' tt c.in-NoMemory.ensures.keeps.over) in
+    (said_over p.at why.NoMemory p.ring.items c.send.new.ring.items p.calls s s' c.requires tt c.in-NoMemory.ensures.keeps.over) in
     record {
       moved = moved_by_write _ _ s s' refl refl refl c.in-NoMemory.ensures.keeps refl;
       came = refl;
@@ -157,6 +169,7 @@ returns-in-NoMemory-clause-says g c =
 
 pub returns-then-is_empty-clause-once : goal.returns-then-is_empty-clause-once
 returns-then-is_empty-clause-once g c =
+    let V : Voice g.row.H.Denot = record { says = g.H.Hijack.says; ends = g.H.Hijack.ends } in
     let s = g.L.Link.seen c.args.link.now in
     let s' = g.L.Link.seen c.send.new.link in
     let p = c.args.self.now in
@@ -166,17 +179,18 @@ returns-then-is_empty-clause-once g c =
     let n = c.in-Took.field-0 in
     let none : c.send.new.ring.items ≡ [] =
     nil_from_length c.send.new.ring.items (grind (arith, nat_tests, c.is_empty.ensures, c.if-is_empty.true)) in
-    let completes : CompletesTo p.at p.intake p.held c.complete-at.result c.complete-at.new.intake c.complete-at.new.held =
-    subst (λ (a : At g.row.B.Denot g.row.H.Denot). CompletesTo a p.intake p.held c.complete-at.result c.complete-at.new.intake c.complete-at.new.held)
-    c.replace-at.ensures.value c.complete-at.ensures in
-    let all : TookAll p.at c.put.new.at p.ring.items p.calls n =
-    subst (λ (b : At g.row.B.Denot g.row.H.Denot). TookAll p.at b p.ring.items p.calls n) (sym c.put.ensures)
-    (took_all p.at c.complete-at.result p.ring.items p.calls n p.intake c.complete-at.new.intake p.held c.complete-at.new.held completes c.requires
-    p.rests (sym none ∙ e.off) e.writes.1) in (
+    let left = c.complete-at.new.held in
+    let ring = c.complete-at.new.ring.items in
+    let completes : CompletesTo V p.at p.intake p.held c.put.new.at c.complete-at.new.intake left ring =
+    subst (λ (b : At g.row.B.Denot g.row.H.Denot). CompletesTo V p.at p.intake p.held b c.complete-at.new.intake left ring) (sym c.put.ensures)
+    (subst (λ (a : At g.row.B.Denot g.row.H.Denot). CompletesTo V a p.intake p.held c.complete-at.result c.complete-at.new.intake left ring)
+    c.replace-at.ensures.value c.complete-at.ensures.completes) in (
       write.Took n,
       refl,
       wrote_once (write.Took n) _ _ s s' p.ring.items front e.writes e.keeps e.ahead (record { peer = refl; local = refl; lives = refl; taken = refl })
-          refl (ap (λ (x : List ℕ). owed_at c.put.new.at x) none ∙ all.owed, all.to),
+          refl
+          (took_all p.peer p.local p.lives.items p.calls p.taken V p.at c.put.new.at p.ring.items ring p.held left n p.intake c.complete-at.new.intake
+          completes c.requires p.rests (sym none ∙ e.off) e.writes.1),
     )
 
 pub returns-else-is_empty-clause-once : goal.returns-else-is_empty-clause-once
@@ -187,14 +201,13 @@ returns-else-is_empty-clause-once g c =
     let e = c.in-Took.ensures in
     let few : length p.ring.items ≤ ring_room = omega (arith, e.within, p.room) in
     let front : p.ring.items ≡ take ring_room (owed_at p.at p.ring.items) = fills_front p.at p.ring.items c.requires few in
+    let some : 0 < length c.send.new.ring.items = grind (arith, nat_tests, c.is_empty.ensures, c.if-is_empty.false) in
     let n = c.in-Took.field-0 in (
       write.Took n,
       refl,
       wrote_once (write.Took n) _ _ s s' p.ring.items front e.writes e.keeps e.ahead (record { peer = refl; local = refl; lives = refl; taken = refl })
-          refl (
-            owed_left p.at p.ring.items c.send.new.ring.items n c.requires e.off e.writes.1,
-            took_on p.at p.ring.items p.calls c.requires,
-          ),
+          refl
+          (took_some p.peer p.local p.lives.items p.calls p.taken p.at p.ring.items c.send.new.ring.items p.held n c.requires e.off e.writes.1 some),
     )
 
 pub returns-in-NotYet-clause-once : goal.returns-in-NotYet-clause-once
@@ -205,9 +218,8 @@ returns-in-NotYet-clause-once g c =
     let e = c.in-NotYet.ensures in
     let few : length p.ring.items ≤ ring_room = omega (arith, e.within, p.room) in
     let front : p.ring.items ≡ take ring_room (owed_at p.at p.ring.items) = fills_front p.at p.ring.items c.requires few in
-    let is = filled_shown p.at p.ring.items c.requires in
     wrote_once write.NotYet _ _ s s' p.ring.items front e.writes e.keeps e.ahead (record { peer = refl; local = refl; lives = refl; taken = refl })
-    refl (ap (λ (x : List ℕ). owed_at p.at x) e.off, is.0, is.1, refl)
+    refl (took_none p.peer p.local p.lives.items p.calls p.taken p.at p.ring.items c.send.new.ring.items p.held c.requires e.off)
 
 pub returns-in-Failed-clause-once : goal.returns-in-Failed-clause-once
 returns-in-Failed-clause-once g c =

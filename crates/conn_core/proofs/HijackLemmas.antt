@@ -1,0 +1,386 @@
+-- What stands once a hijacker was told something.
+use Rattle.std.proofs.Common.{◌≡◌, ℕ, suc, ◌+◌, Bool, true, false, if◌then◌else◌, List, [], ◌++◌, refl, sym, ap, subst, ◌∙◌, append_assoc, arith, Some, inr}
+use Rattle.std.proofs.lemmas.List.{append-nil}
+use Rattle.hijack_core.specs.declared.hijack.Said.{Said}
+use Rattle.hijack_core.specs.Said.{GoesOnAs}
+use Rattle.rack_types.specs.Request.{Parts}
+use Rattle.rack_outside.specs.Link.{Seen, IsOneRead, marked}
+use Rattle.rack_outside.specs.Told.{Rose, appended}
+use Rattle.rack_outside.proofs.CallerLemmas.{rose_some}
+use Rattle.message_framing.specs.declared.intake.Intake.{Intake}
+use Rattle.reply_framing.specs.declared.types.After.TheVariants.{Hijack}
+use Rattle.talk_core.specs.declared.ended.Why.TheVariants as why
+use Rattle.talk_core.specs.Ended.{NeedsDrain}
+use Rattle.talk_core.specs.Stands.{Stands, replies, hands_over}
+use Rattle.talk_core.specs.Tail.{Voice, tail_of, goes_on}
+use Rattle.talk_core.specs.Teller.{Teller}
+use Rattle.talk_core.proofs.CallerLemmas.{stands_handed, stands_heard, stands_over, tail_so_far, whole_handed, shows_given, shows_unread, shows_over}
+use Rattle.conn_core.specs.declared.place.At.{At}
+use Rattle.conn_core.specs.declared.place.At.TheVariants as at
+use Rattle.conn_core.specs.Holds.{Kept, past, Handed, Hears, HoldsAt, StandsAt}
+use Rattle.conn_core.specs.Place.{IsHearing}
+use Rattle.conn_core.specs.Plain.{EndsPlainly}
+use Rattle.conn_core.specs.Rests.{RestsAt}
+use Rattle.conn_core.specs.Steps.{Tells, TellsEnd, HandsOn, EndsOn}
+use Rattle.conn_core.proofs.PlaceLemmas.{kept_same}
+
+-- the parts behind what a hijacker was told
+abbrev pub with_told : Kept → List ℕ → List ℕ → Kept
+with_told c ring left = record { intake = c.intake; held = left; ring = ring; calls = c.calls }
+
+-- a hijacker that doesn't go on is at its end, whether the peer ended or not
+stops_on : (over go : Bool) → go ≡ false → (if over then false else go) ≡ false
+stops_on true go e = refl
+stops_on false go e = e
+
+-- one that isn't to be asked again needs no drain
+no_drain : (goes : Bool) (level : ℕ) → goes ≡ false → NeedsDrain goes level
+no_drain true level e = cc
+no_drain false level e = tt
+
+-- behind some bytes, and then behind more
+pub goes_then : {H : Type 0} (V : Voice H) (h now later : H) (bytes piece : List ℕ) → GoesOnAs (V.says h) (V.ends h) bytes (V.says now) (V.ends now)
+    → GoesOnAs (V.says now) (V.ends now) piece (V.says later) (V.ends later)
+    → GoesOnAs (V.says h) (V.ends h) (bytes ++ piece) (V.says later) (V.ends later)
+goes_then {H} V h now later bytes piece first second = record {
+  joined = λ more.
+      ap (V.says h) (append_assoc bytes piece more) ∙ first.joined (piece ++ more)
+      ∙ ap (λ (s : Said). record { bytes = (V.says h bytes).bytes ++ s.bytes; go_on = s.go_on }) (second.joined more)
+      ∙ ap (λ (xs : List ℕ). record { bytes = xs; go_on = (V.says later more).go_on })
+      (sym (append_assoc (V.says h bytes).bytes (V.says now piece).bytes (V.says later more).bytes))
+      ∙ ap (λ (s : Said). record { bytes = s.bytes ++ (V.says later more).bytes; go_on = (V.says later more).go_on }) (sym (first.joined piece));
+  ended = λ more. ap (V.ends h) (append_assoc bytes piece more) ∙ first.ended (piece ++ more) ∙ second.ended more;
+}
+
+-- whether it goes on behind them is told by the last that were said
+pub goes_as : {H : Type 0} (V : Voice H) (h now : H) (bytes piece : List ℕ) → GoesOnAs (V.says h) (V.ends h) bytes (V.says now) (V.ends now)
+    → (V.says h (bytes ++ piece)).go_on ≡ (V.says now piece).go_on
+goes_as {H} V h now bytes piece first = ap (λ (s : Said). s.go_on) (first.joined piece)
+
+module _ {H : Type 0} (V : Voice H) (T : Teller H) (s : Seen) (over : Bool) (given sent : List ℕ) (c : Kept) (k : ℕ) (r : Parts) (first : H)
+    (rest : List ℕ) (count : c.calls ≡ suc k) where
+  abbrev handed : (ring left : List ℕ) → Stands V T over given sent k (hands_over r first) rest ring → Handed V T over given sent (with_told c ring left)
+  handed ring left stands = record { k = k; request = r; first = first; rest = rest; count = count; stands = stands }
+
+  -- it said its last, and all of it was sent
+  pub parted : Stands V T over given sent k (hands_over r first) rest [] → goes_on V first rest over ≡ false
+      → EndsPlainly why.Hijacked V T (past s c.calls given sent over)
+  parted stands ends =
+      let x = whole_handed V T (past s c.calls given sent over) rest r first k stands count tt in
+      (first, rest, x.0, x.1, x.2, no_drain (goes_on V first rest over) 0 ends)
+
+  -- what is lacking of it, with want of memory
+  pub unspoken : (lacks : List ℕ) → Stands V T over given sent k (hands_over r first) rest lacks
+      → EndsPlainly why.NoMemory V T (past s c.calls given sent over)
+  unspoken lacks stands =
+      let n : c.calls ≡ k + 1 = omega (arith, count) in
+      (lacks, record { word = hands_over r first; untimed = tt; partly = record { k = k; rest = rest; calls_is = n; stands = stands; closes = tt } })
+
+module _ {B H : Type 0} (V : Voice H) (T : Teller H) (s : Seen) (over : Bool) (given sent : List ℕ) (c : Kept) (k : ℕ) (r : Parts) (first : H)
+    (rest : List ℕ) (count : c.calls ≡ suc k) where
+  -- a hijacker, which is what the first one is behind what it was told, was told this piece, and that is all
+  pub told_at : (now : H) (piece ring left : List ℕ) (b : At B H) → Tells V now piece b ring left → over ≡ false
+      → (V.says first rest).go_on ≡ (V.says now piece).go_on
+      → ((later : H) → GoesOnAs (V.says now) (V.ends now) piece (V.says later) (V.ends later)
+      → GoesOnAs (V.says first) (V.ends first) rest (V.says later) (V.ends later))
+      → Stands V T over given sent k (hands_over r first) rest (V.says now piece).bytes
+      → HoldsAt b V T s over given sent (with_told c ring left)
+  told_at now piece ring left at.Reading e live same behind stands = absurd e
+  told_at now piece ring left at.Asked e live same behind stands = absurd e
+  told_at now piece ring left (at.Refused f) e live same behind stands = absurd e
+  told_at now piece ring left (at.Answering f) e live same behind stands = absurd e
+  told_at now piece ring left (at.Writing keeps) e live same behind stands = absurd e
+  told_at now piece ring left (at.Handing h) e live same behind stands = absurd e
+  told_at now piece ring left at.Refusing e live same behind stands = absurd e
+  told_at now piece ring left (at.Taken later) e live same behind stands = record {
+    handed = handed V T s over given sent c k r first rest count ring left (subst (λ (x : List ℕ). Stands V T over given sent k (hands_over r first) rest x) (sym e.0.ring_is) stands);
+    live = live;
+    goes = same ∙ e.0.goes;
+    behind = behind later e.0.behind;
+  }
+  told_at now piece ring left (at.Speaking later) e live same behind stands = record {
+    handed = handed V T s over given sent c k r first rest count ring left (subst (λ (x : List ℕ). Stands V T over given sent k (hands_over r first) rest x) (sym e.0.ring_is) stands);
+    live = live;
+    goes = same ∙ e.0.goes;
+    behind = behind later e.0.behind;
+  }
+  told_at now piece ring left at.Parting e live same behind stands = record {
+    handed = handed V T s over given sent c k r first rest count ring left (subst (λ (x : List ℕ). Stands V T over given sent k (hands_over r first) rest x) (sym e.0.ring_is) stands);
+    ended = stops_on over (V.says first rest).go_on (same ∙ e.0.stops);
+  }
+  told_at now piece ring left (at.Over why.Closed) e live same behind stands = absurd e
+  told_at now piece ring left (at.Over why.PeerEnd) e live same behind stands = absurd e
+  told_at now piece ring left (at.Over (why.Idle by)) e live same behind stands = absurd e
+  told_at now piece ring left (at.Over (why.TimedOut since moment)) e live same behind stands = absurd e
+  told_at now piece ring left (at.Over (why.Stalled since moment)) e live same behind stands = absurd e
+  told_at now piece ring left (at.Over (why.Unread level)) e live same behind stands = absurd e
+  told_at now piece ring left (at.Over why.ReadFailed) e live same behind stands = absurd e
+  told_at now piece ring left (at.Over why.WriteFailed) e live same behind stands = absurd e
+  told_at now piece ring left (at.Over (why.Halted level)) e live same behind stands = absurd e
+  told_at now piece ring left (at.Over why.NoMemory) e live same behind stands = unspoken V T s over given sent c k r first rest count (V.says now piece).bytes stands
+  told_at now piece ring left (at.Over why.Hijacked) e live same behind stands =
+      parted V T s over given sent c k r first rest count (subst (λ (x : List ℕ). Stands V T over given sent k (hands_over r first) rest x) (sym e.0.ring_is) stands)
+      (stops_on over (V.says first rest).go_on (same ∙ e.0.stops))
+
+  -- it was told the peer's end
+  pub told_end : (now : H) (ring left : List ℕ) (b : At B H) → TellsEnd V now b ring → over ≡ true
+      → Stands V T over given sent k (hands_over r first) rest (V.ends now []) → HoldsAt b V T s over given sent (with_told c ring left)
+  told_end now ring left at.Reading e ended stands = absurd e
+  told_end now ring left at.Asked e ended stands = absurd e
+  told_end now ring left (at.Refused f) e ended stands = absurd e
+  told_end now ring left (at.Answering f) e ended stands = absurd e
+  told_end now ring left (at.Writing keeps) e ended stands = absurd e
+  told_end now ring left (at.Handing h) e ended stands = absurd e
+  told_end now ring left at.Refusing e ended stands = absurd e
+  told_end now ring left (at.Taken h) e ended stands = absurd e
+  told_end now ring left (at.Speaking h) e ended stands = absurd e
+  told_end now ring left at.Parting e ended stands = record {
+    handed = handed V T s over given sent c k r first rest count ring left (subst (λ (x : List ℕ). Stands V T over given sent k (hands_over r first) rest x) (sym e.0) stands);
+    ended = ap (λ (o : Bool). if o then false else (V.says first rest).go_on) ended;
+  }
+  told_end now ring left (at.Over why.Closed) e ended stands = absurd e
+  told_end now ring left (at.Over why.PeerEnd) e ended stands = absurd e
+  told_end now ring left (at.Over (why.Idle by)) e ended stands = absurd e
+  told_end now ring left (at.Over (why.TimedOut since moment)) e ended stands = absurd e
+  told_end now ring left (at.Over (why.Stalled since moment)) e ended stands = absurd e
+  told_end now ring left (at.Over (why.Unread level)) e ended stands = absurd e
+  told_end now ring left (at.Over why.ReadFailed) e ended stands = absurd e
+  told_end now ring left (at.Over why.WriteFailed) e ended stands = absurd e
+  told_end now ring left (at.Over (why.Halted level)) e ended stands = absurd e
+  told_end now ring left (at.Over why.NoMemory) e ended stands = unspoken V T s over given sent c k r first rest count (V.ends now []) stands
+  told_end now ring left (at.Over why.Hijacked) e ended stands =
+      parted V T s over given sent c k r first rest count (subst (λ (x : List ℕ). Stands V T over given sent k (hands_over r first) rest x) e.0 stands)
+      (ap (λ (o : Bool). if o then false else (V.says first rest).go_on) ended)
+
+-- a reply was sent whole, and its hijacker was told the bytes held
+pub hands_at : {B H : Type 0} (V : Voice H) (T : Teller H) (s : Seen) (over : Bool) (given sent : List ℕ) (c : Kept) (h : H) (ring left : List ℕ) (b : At B H)
+    → Tells V h c.held b ring left → (k : ℕ) (r : Parts) → (T k r).after ≡ Hijack → (T k r).hijacker ≡ Some h → c.calls ≡ suc k → over ≡ false
+    → Stands V T over given sent k (replies r) c.held [] → HoldsAt b V T s over given sent (with_told c ring left)
+hands_at {B} {H} V T s over given sent c h ring left b e k r taken who count live stands =
+    told_at V T s over given sent c k r h c.held count h c.held ring left b e live refl (λ later behind. behind)
+    (subst (λ (x : List ℕ). Stands V T over given sent k (hands_over r h) c.held x)
+    (ap (λ (o : Bool). tail_of V h c.held o) live ∙ tail_so_far V h c.held)
+    (stands_handed V T over given sent c.held r h k stands taken who))
+
+-- safety behind what it was told
+pub told_rest : {B H : Type 0} (V : Voice H) (h : H) (piece ring left : List ℕ) (intake : Intake) (calls : ℕ) (b : At B H)
+    → Tells V h piece b ring left → RestsAt b intake left ring calls
+told_rest {B} {H} V h piece ring left intake calls at.Reading e = absurd e
+told_rest {B} {H} V h piece ring left intake calls at.Asked e = absurd e
+told_rest {B} {H} V h piece ring left intake calls (at.Refused f) e = absurd e
+told_rest {B} {H} V h piece ring left intake calls (at.Answering f) e = absurd e
+told_rest {B} {H} V h piece ring left intake calls (at.Writing keeps) e = absurd e
+told_rest {B} {H} V h piece ring left intake calls (at.Handing now) e = absurd e
+told_rest {B} {H} V h piece ring left intake calls at.Refusing e = absurd e
+told_rest {B} {H} V h piece ring left intake calls (at.Taken now) e = (e.0.left_is, e.1)
+told_rest {B} {H} V h piece ring left intake calls (at.Speaking now) e = (e.0.left_is, e.1)
+told_rest {B} {H} V h piece ring left intake calls at.Parting e = e.1
+told_rest {B} {H} V h piece ring left intake calls (at.Over w) e = tt
+
+pub end_rest : {B H : Type 0} (V : Voice H) (h : H) (ring left : List ℕ) (intake : Intake) (calls : ℕ) (b : At B H)
+    → TellsEnd V h b ring → RestsAt b intake left ring calls
+end_rest {B} {H} V h ring left intake calls at.Reading e = absurd e
+end_rest {B} {H} V h ring left intake calls at.Asked e = absurd e
+end_rest {B} {H} V h ring left intake calls (at.Refused f) e = absurd e
+end_rest {B} {H} V h ring left intake calls (at.Answering f) e = absurd e
+end_rest {B} {H} V h ring left intake calls (at.Writing keeps) e = absurd e
+end_rest {B} {H} V h ring left intake calls (at.Handing now) e = absurd e
+end_rest {B} {H} V h ring left intake calls at.Refusing e = absurd e
+end_rest {B} {H} V h ring left intake calls (at.Taken now) e = absurd e
+end_rest {B} {H} V h ring left intake calls (at.Speaking now) e = absurd e
+end_rest {B} {H} V h ring left intake calls at.Parting e = e.1
+end_rest {B} {H} V h ring left intake calls (at.Over w) e = tt
+
+module _ {B H : Type 0} (V : Voice H) (T : Teller H) (old new : Seen) (peer : List ℕ) (c : Kept) (now : H) (one : IsOneRead old new) (none : c.ring ≡ []) where
+  -- bytes came, and were told to the hijacker that has the connection
+  pub heard : (b : At B H) (piece ring left : List ℕ) → new.given ≡ appended old.given piece → new.over ≡ old.over → Tells V now piece b ring left
+      → StandsAt {B = B} V T old peer (at.Taken now) c → StandsAt V T new peer b (with_told c ring left)
+  heard b piece ring left given_is over_is e h =
+      let x : Hears V T h.over h.given h.sent c now = h.at in
+      let q : Handed V T h.over h.given h.sent c = x.handed in
+      let before : Stands V T false h.given h.sent q.k (hands_over q.request q.first) q.rest [] =
+      subst (λ (o : Bool). Stands V T o h.given h.sent q.k (hands_over q.request q.first) q.rest []) x.live
+      (subst (λ (l : List ℕ). Stands V T h.over h.given h.sent q.k (hands_over q.request q.first) q.rest l) none q.stands) in
+      let behind : Stands V T h.over (h.given ++ piece) h.sent q.k (hands_over q.request q.first) (q.rest ++ piece) (V.says now piece).bytes =
+      subst (λ (l : List ℕ). Stands V T h.over (h.given ++ piece) h.sent q.k (hands_over q.request q.first) (q.rest ++ piece) l)
+      (ap (λ (o : Bool). tail_of V now piece o) x.live ∙ tail_so_far V now piece)
+      (stands_heard V T h.over h.given h.sent q.k q.request q.first now q.rest [] piece before x.behind) in
+      record {
+        given = h.given ++ piece;
+        sent = h.sent;
+        over = h.over;
+        shows = shows_given old new peer h.given h.sent h.over piece one given_is over_is h.shows;
+        at = told_at V T new h.over (h.given ++ piece) h.sent c q.k q.request q.first (q.rest ++ piece) q.count now piece ring left b e x.live
+            (goes_as V q.first now q.rest piece x.behind) (λ later behind. goes_then V q.first now later q.rest piece x.behind behind) behind;
+      }
+
+  -- the peer ended, and that was told to it
+  pub heard_end : (b : At B H) (ring left : List ℕ) → new.given ≡ old.given → new.over ≡ marked old.over → TellsEnd V now b ring
+      → StandsAt {B = B} V T old peer (at.Taken now) c → StandsAt V T new peer b (with_told c ring left)
+  heard_end b ring left given_is over_is e h =
+      let x : Hears V T h.over h.given h.sent c now = h.at in
+      let q : Handed V T h.over h.given h.sent c = x.handed in
+      let before : Stands V T false h.given h.sent q.k (hands_over q.request q.first) q.rest [] =
+      subst (λ (o : Bool). Stands V T o h.given h.sent q.k (hands_over q.request q.first) q.rest []) x.live
+      (subst (λ (l : List ℕ). Stands V T h.over h.given h.sent q.k (hands_over q.request q.first) q.rest l) none q.stands) in
+      let last : V.ends q.first q.rest ≡ V.ends now [] = ap (V.ends q.first) (sym (append-nil q.rest)) ∙ x.behind.ended [] in
+      record {
+        given = h.given;
+        sent = h.sent;
+        over = true;
+        shows = shows_over old new peer h.given h.sent h.over one given_is over_is h.shows;
+        at = told_end V T new true h.given h.sent c q.k q.request q.first q.rest q.count now ring left b e refl
+            (subst (λ (l : List ℕ). Stands V T true h.given h.sent q.k (hands_over q.request q.first) q.rest l) last
+            (stands_over V T h.given h.sent q.k q.request q.first q.rest [] before x.goes));
+      }
+
+  -- nothing came yet
+  pub hears_nothing : (d : Kept) → d.intake ≡ c.intake → d.held ≡ c.held → d.ring ≡ c.ring → d.calls ≡ c.calls → new.given ≡ old.given
+      → new.over ≡ old.over → StandsAt {B = B} V T old peer (at.Taken now) c → StandsAt {B = B} V T new peer (at.Taken now) d
+  hears_nothing d i l r n given_is over_is h = record {
+    given = h.given;
+    sent = h.sent;
+    over = h.over;
+    shows = shows_unread old new peer h.given h.sent h.over one given_is over_is h.shows;
+    at = subst (λ (x : Kept). HoldsAt {B = B} (at.Taken now) V T new h.over h.given h.sent x) (kept_same c d i l r n) h.at;
+  }
+
+  -- the read failed
+  pub hears_failure : (d : Kept) → d.calls ≡ c.calls → new.given ≡ old.given → new.over ≡ old.over → Rose old.failed_reads new.failed_reads
+      → StandsAt {B = B} V T old peer (at.Taken now) c → StandsAt {B = B} V T new peer (at.Over why.ReadFailed) d
+  hears_failure d n given_is over_is rose h =
+      let x : Hears V T h.over h.given h.sent c now = h.at in
+      let q : Handed V T h.over h.given h.sent c = x.handed in
+      let one_more : c.calls ≡ q.k + 1 = omega (arith, q.count) in
+      record {
+        given = h.given;
+        sent = h.sent;
+        over = h.over;
+        shows = shows_unread old new peer h.given h.sent h.over one given_is over_is h.shows;
+        at = subst (λ (m : ℕ). EndsPlainly why.ReadFailed V T (past new m h.given h.sent h.over)) (sym n) (
+          rose_some old.failed_reads new.failed_reads rose,
+          inr (record {
+            word = hands_over q.request q.first;
+            lacks = c.ring;
+            partly = record { k = q.k; rest = q.rest; calls_is = one_more; stands = q.stands; closes = tt };
+            taken = tt;
+          }),
+        );
+      }
+
+-- the same of a place at which one has the connection
+module _ {B H : Type 0} (V : Voice H) (T : Teller H) (old new : Seen) (peer : List ℕ) (c : Kept) (one : IsOneRead old new) (none : c.ring ≡ []) where
+  pub heard_at : (a b : At B H) (piece before ring left : List ℕ) → IsHearing a → new.given ≡ appended old.given piece → new.over ≡ old.over
+      → HandsOn V a piece before b ring left → StandsAt V T old peer a c → StandsAt V T new peer b (with_told c ring left)
+  heard_at at.Reading b piece before ring left is given_is over_is e h = absurd is
+  heard_at at.Asked b piece before ring left is given_is over_is e h = absurd is
+  heard_at (at.Refused f) b piece before ring left is given_is over_is e h = absurd is
+  heard_at (at.Answering f) b piece before ring left is given_is over_is e h = absurd is
+  heard_at (at.Writing keeps) b piece before ring left is given_is over_is e h = absurd is
+  heard_at (at.Handing now) b piece before ring left is given_is over_is e h = absurd is
+  heard_at at.Refusing b piece before ring left is given_is over_is e h = absurd is
+  heard_at (at.Taken now) b piece before ring left is given_is over_is e h = heard V T old new peer c now one none b piece ring left given_is over_is e h
+  heard_at (at.Speaking now) b piece before ring left is given_is over_is e h = absurd is
+  heard_at at.Parting b piece before ring left is given_is over_is e h = absurd is
+  heard_at (at.Over w) b piece before ring left is given_is over_is e h = absurd is
+
+  pub end_at : (a b : At B H) (ring left : List ℕ) → IsHearing a → new.given ≡ old.given → new.over ≡ marked old.over
+      → EndsOn V a b ring → StandsAt V T old peer a c → StandsAt V T new peer b (with_told c ring left)
+  end_at at.Reading b ring left is given_is over_is e h = absurd is
+  end_at at.Asked b ring left is given_is over_is e h = absurd is
+  end_at (at.Refused f) b ring left is given_is over_is e h = absurd is
+  end_at (at.Answering f) b ring left is given_is over_is e h = absurd is
+  end_at (at.Writing keeps) b ring left is given_is over_is e h = absurd is
+  end_at (at.Handing now) b ring left is given_is over_is e h = absurd is
+  end_at at.Refusing b ring left is given_is over_is e h = absurd is
+  end_at (at.Taken now) b ring left is given_is over_is e h = heard_end V T old new peer c now one none b ring left given_is over_is e h
+  end_at (at.Speaking now) b ring left is given_is over_is e h = absurd is
+  end_at at.Parting b ring left is given_is over_is e h = absurd is
+  end_at (at.Over w) b ring left is given_is over_is e h = absurd is
+
+  pub nothing_at : (a : At B H) (d : Kept) → IsHearing a → d.intake ≡ c.intake → d.held ≡ c.held → d.ring ≡ c.ring → d.calls ≡ c.calls
+      → new.given ≡ old.given → new.over ≡ old.over → StandsAt V T old peer a c → StandsAt V T new peer a d
+  nothing_at at.Reading d is i l r n given_is over_is h = absurd is
+  nothing_at at.Asked d is i l r n given_is over_is h = absurd is
+  nothing_at (at.Refused f) d is i l r n given_is over_is h = absurd is
+  nothing_at (at.Answering f) d is i l r n given_is over_is h = absurd is
+  nothing_at (at.Writing keeps) d is i l r n given_is over_is h = absurd is
+  nothing_at (at.Handing now) d is i l r n given_is over_is h = absurd is
+  nothing_at at.Refusing d is i l r n given_is over_is h = absurd is
+  nothing_at (at.Taken now) d is i l r n given_is over_is h = hears_nothing {B = B} V T old new peer c now one none d i l r n given_is over_is h
+  nothing_at (at.Speaking now) d is i l r n given_is over_is h = absurd is
+  nothing_at at.Parting d is i l r n given_is over_is h = absurd is
+  nothing_at (at.Over w) d is i l r n given_is over_is h = absurd is
+
+  pub failure_at : (a : At B H) (d : Kept) → IsHearing a → d.calls ≡ c.calls → new.given ≡ old.given → new.over ≡ old.over
+      → Rose old.failed_reads new.failed_reads → StandsAt V T old peer a c → StandsAt {B = B} V T new peer (at.Over why.ReadFailed) d
+  failure_at at.Reading d is n given_is over_is rose h = absurd is
+  failure_at at.Asked d is n given_is over_is rose h = absurd is
+  failure_at (at.Refused f) d is n given_is over_is rose h = absurd is
+  failure_at (at.Answering f) d is n given_is over_is rose h = absurd is
+  failure_at (at.Writing keeps) d is n given_is over_is rose h = absurd is
+  failure_at (at.Handing now) d is n given_is over_is rose h = absurd is
+  failure_at at.Refusing d is n given_is over_is rose h = absurd is
+  failure_at (at.Taken now) d is n given_is over_is rose h = hears_failure {B = B} V T old new peer c now one none d n given_is over_is rose h
+  failure_at (at.Speaking now) d is n given_is over_is rose h = absurd is
+  failure_at at.Parting d is n given_is over_is rose h = absurd is
+  failure_at (at.Over w) d is n given_is over_is rose h = absurd is
+
+-- where a hijacker has the connection nothing is owed and nothing held
+pub hearing_rests : {B H : Type 0} (a : At B H) (intake : Intake) (held ring : List ℕ) (calls : ℕ) → IsHearing a → RestsAt a intake held ring calls
+    → (held ≡ []) × (ring ≡ [])
+hearing_rests {B} {H} at.Reading intake held ring calls is h = absurd is
+hearing_rests {B} {H} at.Asked intake held ring calls is h = absurd is
+hearing_rests {B} {H} (at.Refused f) intake held ring calls is h = absurd is
+hearing_rests {B} {H} (at.Answering f) intake held ring calls is h = absurd is
+hearing_rests {B} {H} (at.Writing keeps) intake held ring calls is h = absurd is
+hearing_rests {B} {H} (at.Handing now) intake held ring calls is h = absurd is
+hearing_rests {B} {H} at.Refusing intake held ring calls is h = absurd is
+hearing_rests {B} {H} (at.Taken now) intake held ring calls is h = h
+hearing_rests {B} {H} (at.Speaking now) intake held ring calls is h = absurd is
+hearing_rests {B} {H} at.Parting intake held ring calls is h = absurd is
+hearing_rests {B} {H} (at.Over w) intake held ring calls is h = absurd is
+
+-- safety behind what was told at such a place
+pub heard_rest : {B H : Type 0} (V : Voice H) (a b : At B H) (piece before ring left : List ℕ) (intake : Intake) (calls : ℕ) → IsHearing a
+    → HandsOn V a piece before b ring left → RestsAt b intake left ring calls
+heard_rest {B} {H} V at.Reading b piece before ring left intake calls is e = absurd is
+heard_rest {B} {H} V at.Asked b piece before ring left intake calls is e = absurd is
+heard_rest {B} {H} V (at.Refused f) b piece before ring left intake calls is e = absurd is
+heard_rest {B} {H} V (at.Answering f) b piece before ring left intake calls is e = absurd is
+heard_rest {B} {H} V (at.Writing keeps) b piece before ring left intake calls is e = absurd is
+heard_rest {B} {H} V (at.Handing now) b piece before ring left intake calls is e = absurd is
+heard_rest {B} {H} V at.Refusing b piece before ring left intake calls is e = absurd is
+heard_rest {B} {H} V (at.Taken now) b piece before ring left intake calls is e = told_rest V now piece ring left intake calls b e
+heard_rest {B} {H} V (at.Speaking now) b piece before ring left intake calls is e = absurd is
+heard_rest {B} {H} V at.Parting b piece before ring left intake calls is e = absurd is
+heard_rest {B} {H} V (at.Over w) b piece before ring left intake calls is e = absurd is
+
+pub heard_end_rest : {B H : Type 0} (V : Voice H) (a b : At B H) (ring left : List ℕ) (intake : Intake) (calls : ℕ) → IsHearing a
+    → EndsOn V a b ring → RestsAt b intake left ring calls
+heard_end_rest {B} {H} V at.Reading b ring left intake calls is e = absurd is
+heard_end_rest {B} {H} V at.Asked b ring left intake calls is e = absurd is
+heard_end_rest {B} {H} V (at.Refused f) b ring left intake calls is e = absurd is
+heard_end_rest {B} {H} V (at.Answering f) b ring left intake calls is e = absurd is
+heard_end_rest {B} {H} V (at.Writing keeps) b ring left intake calls is e = absurd is
+heard_end_rest {B} {H} V (at.Handing now) b ring left intake calls is e = absurd is
+heard_end_rest {B} {H} V at.Refusing b ring left intake calls is e = absurd is
+heard_end_rest {B} {H} V (at.Taken now) b ring left intake calls is e = end_rest V now ring left intake calls b e
+heard_end_rest {B} {H} V (at.Speaking now) b ring left intake calls is e = absurd is
+heard_end_rest {B} {H} V at.Parting b ring left intake calls is e = absurd is
+heard_end_rest {B} {H} V (at.Over w) b ring left intake calls is e = absurd is
+
+-- safety where nothing came
+pub nothing_rest : {B H : Type 0} (a : At B H) (intake : Intake) (held left ring : List ℕ) (calls : ℕ) → IsHearing a → left ≡ []
+    → RestsAt a intake held ring calls → RestsAt a intake left ring calls
+nothing_rest {B} {H} at.Reading intake held left ring calls is e h = absurd is
+nothing_rest {B} {H} at.Asked intake held left ring calls is e h = absurd is
+nothing_rest {B} {H} (at.Refused f) intake held left ring calls is e h = absurd is
+nothing_rest {B} {H} (at.Answering f) intake held left ring calls is e h = absurd is
+nothing_rest {B} {H} (at.Writing keeps) intake held left ring calls is e h = absurd is
+nothing_rest {B} {H} (at.Handing now) intake held left ring calls is e h = absurd is
+nothing_rest {B} {H} at.Refusing intake held left ring calls is e h = absurd is
+nothing_rest {B} {H} (at.Taken now) intake held left ring calls is e h = (e, h.1)
+nothing_rest {B} {H} (at.Speaking now) intake held left ring calls is e h = absurd is
+nothing_rest {B} {H} at.Parting intake held left ring calls is e h = absurd is
+nothing_rest {B} {H} (at.Over w) intake held left ring calls is e h = absurd is
