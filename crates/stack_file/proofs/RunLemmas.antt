@@ -17,6 +17,7 @@ use Rattle.stack_file.specs.Canon.{arguments, mark, app_words}
 use Rattle.stack_file.specs.Lines.{words}
 use Rattle.stack_file.specs.Said.{Said, RunLine, said, said_by_words, verb_line, with_text, texts_of, named, ill_formed, by_texts, run_line}
 use Rattle.stack_file.proofs.EscapeLemmas.{AllVisible, IsShort, escaped_short, decimal_short, decimal_word, decimal_again}
+use Rattle.stack_file.proofs.TakeLemmas.{take_cases, part_cases}
 use Rattle.stack_file.proofs.UseLemmas.{AreRead, are_read, MaySay, use_may, map_may, end_may, cascade_may, verb_said, written_says}
 use Rattle.stack_file.proofs.WalkLemmas.{run_text}
 use Rattle.stack_file.proofs.WordLemmas.{AllWords, total, by_words, Verb, used, mapped, ended, ran, tried, unknown}
@@ -338,43 +339,82 @@ bad_cases ws texts app fits e f = by_count (nat_le 1 (length texts) && nat_le (l
 same_text : (xs ys : List ℕ) → bytes_eq xs ys ≡ true → xs ≡ ys
 same_text xs ys e = (bytes_eq-Decides xs ys).0 e
 
+-- what is said of a word by its name, where it is none of those before
+abbrev from_part : {N : Type 0} → (List ℕ → Option N) → List ℕ → Option N
+from_part say word = if bytes_eq word (codes "part") then say (codes "part") else None
+
+abbrev from_take : {N : Type 0} → (List ℕ → Option N) → List ℕ → Option N
+from_take say word = if bytes_eq word (codes "take") then say (codes "take") else from_part say word
+
+abbrev from_late : {N : Type 0} → (List ℕ → Option N) → List ℕ → Option N
+from_late say word = if bytes_eq word (codes "late") then say (codes "late") else from_take say word
+
+abbrev from_raise : {N : Type 0} → (List ℕ → Option N) → List ℕ → Option N
+from_raise say word = if bytes_eq word (codes "raise") then say (codes "raise") else from_late say word
+
+abbrev from_bad : {N : Type 0} → (List ℕ → Option N) → List ℕ → Option N
+from_bad say word = if bytes_eq word (codes "bad") then say (codes "bad") else from_raise say word
+
+abbrev from_cookies : {N : Type 0} → (List ℕ → Option N) → List ℕ → Option N
+from_cookies say word = if bytes_eq word (codes "cookies") then say (codes "cookies") else from_bad say word
+
+abbrev from_stream : {N : Type 0} → (List ℕ → Option N) → List ℕ → Option N
+from_stream say word = if bytes_eq word (codes "stream") then say (codes "stream") else from_cookies say word
+
+abbrev from_pieces : {N : Type 0} → (List ℕ → Option N) → List ℕ → Option N
+from_pieces say word = if bytes_eq word (codes "pieces") then say (codes "pieces") else from_stream say word
+
+abbrev from_env : {N : Type 0} → (List ℕ → Option N) → List ℕ → Option N
+from_env say word = if bytes_eq word (codes "env") then say (codes "env") else from_pieces say word
+
+abbrev from_echo : {N : Type 0} → (List ℕ → Option N) → List ℕ → Option N
+from_echo say word = if bytes_eq word (codes "echo") then say (codes "echo") else from_env say word
+
 app_again : (name : List ℕ) (ws texts : List (List ℕ)) (app : App) → 4 + (suc (length name) + total ws) ≤ 4097 → texts_of ws ≡ Some texts → app_of name texts ≡ Ok app → AppAgain app
 unfolding name_of
 app_again name ws texts app fits e g = by_text (bytes_eq name (codes "text")) refl g
   where
-    by_late : (c : Bool) → bytes_eq name (codes "late") ≡ c → named_words (if c then name_of (codes "late") else None) texts ≡ Ok app → AppAgain app
-    by_late true is f = let size : length name ≡ 4 = ap length (same_text name (codes "late") is) in late_cases ws texts app (omega (arith, fits, size)) e f
-    by_late false is f = cc f
+    by_part : (c : Bool) → bytes_eq name (codes "part") ≡ c → named_words (if c then name_of (codes "part") else None) texts ≡ Ok app → AppAgain app
+    by_part true is f = let size : length name ≡ 4 = ap length (same_text name (codes "part") is) in part_cases ws texts app (omega (arith, fits, size)) e f
+    by_part false is f = cc f
 
-    by_raise : (c : Bool) → bytes_eq name (codes "raise") ≡ c → named_words (if c then name_of (codes "raise") else if bytes_eq name (codes "late") then name_of (codes "late") else None) texts ≡ Ok app → AppAgain app
+    by_take : (c : Bool) → bytes_eq name (codes "take") ≡ c → named_words (if c then name_of (codes "take") else from_part name_of name) texts ≡ Ok app → AppAgain app
+    by_take true is f = let size : length name ≡ 4 = ap length (same_text name (codes "take") is) in take_cases ws texts app (omega (arith, fits, size)) e f
+    by_take false is f = by_part (bytes_eq name (codes "part")) refl f
+
+    by_late : (c : Bool) → bytes_eq name (codes "late") ≡ c → named_words (if c then name_of (codes "late") else from_take name_of name) texts ≡ Ok app → AppAgain app
+    by_late true is f = let size : length name ≡ 4 = ap length (same_text name (codes "late") is) in late_cases ws texts app (omega (arith, fits, size)) e f
+    by_late false is f = by_take (bytes_eq name (codes "take")) refl f
+
+    by_raise : (c : Bool) → bytes_eq name (codes "raise") ≡ c → named_words (if c then name_of (codes "raise") else from_late name_of name) texts ≡ Ok app → AppAgain app
     by_raise true is f = let size : length name ≡ 5 = ap length (same_text name (codes "raise") is) in raise_cases ws texts app (omega (arith, fits, size)) e f
     by_raise false is f = by_late (bytes_eq name (codes "late")) refl f
 
-    by_bad : (c : Bool) → bytes_eq name (codes "bad") ≡ c → named_words (if c then name_of (codes "bad") else if bytes_eq name (codes "raise") then name_of (codes "raise") else if bytes_eq name (codes "late") then name_of (codes "late") else None) texts ≡ Ok app → AppAgain app
+    by_bad : (c : Bool) → bytes_eq name (codes "bad") ≡ c → named_words (if c then name_of (codes "bad") else from_raise name_of name) texts ≡ Ok app → AppAgain app
     by_bad true is f = let size : length name ≡ 3 = ap length (same_text name (codes "bad") is) in bad_cases ws texts app (omega (arith, fits, size)) e f
     by_bad false is f = by_raise (bytes_eq name (codes "raise")) refl f
 
-    by_cookies : (c : Bool) → bytes_eq name (codes "cookies") ≡ c → named_words (if c then name_of (codes "cookies") else if bytes_eq name (codes "bad") then name_of (codes "bad") else if bytes_eq name (codes "raise") then name_of (codes "raise") else if bytes_eq name (codes "late") then name_of (codes "late") else None) texts ≡ Ok app → AppAgain app
+    by_cookies : (c : Bool) → bytes_eq name (codes "cookies") ≡ c → named_words (if c then name_of (codes "cookies") else from_bad name_of name) texts ≡ Ok app → AppAgain app
     by_cookies true is f = let size : length name ≡ 7 = ap length (same_text name (codes "cookies") is) in cookies_cases ws texts app (omega (arith, fits, size)) e f
     by_cookies false is f = by_bad (bytes_eq name (codes "bad")) refl f
 
-    by_stream : (c : Bool) → bytes_eq name (codes "stream") ≡ c → named_words (if c then name_of (codes "stream") else if bytes_eq name (codes "cookies") then name_of (codes "cookies") else if bytes_eq name (codes "bad") then name_of (codes "bad") else if bytes_eq name (codes "raise") then name_of (codes "raise") else if bytes_eq name (codes "late") then name_of (codes "late") else None) texts ≡ Ok app → AppAgain app
+    by_stream : (c : Bool) → bytes_eq name (codes "stream") ≡ c → named_words (if c then name_of (codes "stream") else from_cookies name_of name) texts ≡ Ok app → AppAgain app
     by_stream true is f = let size : length name ≡ 6 = ap length (same_text name (codes "stream") is) in stream_cases ws texts app (omega (arith, fits, size)) e f
     by_stream false is f = by_cookies (bytes_eq name (codes "cookies")) refl f
 
-    by_pieces : (c : Bool) → bytes_eq name (codes "pieces") ≡ c → named_words (if c then name_of (codes "pieces") else if bytes_eq name (codes "stream") then name_of (codes "stream") else if bytes_eq name (codes "cookies") then name_of (codes "cookies") else if bytes_eq name (codes "bad") then name_of (codes "bad") else if bytes_eq name (codes "raise") then name_of (codes "raise") else if bytes_eq name (codes "late") then name_of (codes "late") else None) texts ≡ Ok app → AppAgain app
+    by_pieces : (c : Bool) → bytes_eq name (codes "pieces") ≡ c → named_words (if c then name_of (codes "pieces") else from_stream name_of name) texts ≡ Ok app → AppAgain app
     by_pieces true is f = let size : length name ≡ 6 = ap length (same_text name (codes "pieces") is) in pieces_cases ws texts app (omega (arith, fits, size)) e f
     by_pieces false is f = by_stream (bytes_eq name (codes "stream")) refl f
 
-    by_env : (c : Bool) → bytes_eq name (codes "env") ≡ c → named_words (if c then name_of (codes "env") else if bytes_eq name (codes "pieces") then name_of (codes "pieces") else if bytes_eq name (codes "stream") then name_of (codes "stream") else if bytes_eq name (codes "cookies") then name_of (codes "cookies") else if bytes_eq name (codes "bad") then name_of (codes "bad") else if bytes_eq name (codes "raise") then name_of (codes "raise") else if bytes_eq name (codes "late") then name_of (codes "late") else None) texts ≡ Ok app → AppAgain app
+    by_env : (c : Bool) → bytes_eq name (codes "env") ≡ c → named_words (if c then name_of (codes "env") else from_pieces name_of name) texts ≡ Ok app → AppAgain app
     by_env true is f = bare_again Env app texts env_again f
     by_env false is f = by_pieces (bytes_eq name (codes "pieces")) refl f
 
-    by_echo : (c : Bool) → bytes_eq name (codes "echo") ≡ c → named_words (if c then name_of (codes "echo") else if bytes_eq name (codes "env") then name_of (codes "env") else if bytes_eq name (codes "pieces") then name_of (codes "pieces") else if bytes_eq name (codes "stream") then name_of (codes "stream") else if bytes_eq name (codes "cookies") then name_of (codes "cookies") else if bytes_eq name (codes "bad") then name_of (codes "bad") else if bytes_eq name (codes "raise") then name_of (codes "raise") else if bytes_eq name (codes "late") then name_of (codes "late") else None) texts ≡ Ok app → AppAgain app
+    by_echo : (c : Bool) → bytes_eq name (codes "echo") ≡ c → named_words (if c then name_of (codes "echo") else from_env name_of name) texts ≡ Ok app → AppAgain app
     by_echo true is f = bare_again Echo app texts echo_again f
     by_echo false is f = by_env (bytes_eq name (codes "env")) refl f
 
-    by_text : (c : Bool) → bytes_eq name (codes "text") ≡ c → named_words (if c then name_of (codes "text") else if bytes_eq name (codes "echo") then name_of (codes "echo") else if bytes_eq name (codes "env") then name_of (codes "env") else if bytes_eq name (codes "pieces") then name_of (codes "pieces") else if bytes_eq name (codes "stream") then name_of (codes "stream") else if bytes_eq name (codes "cookies") then name_of (codes "cookies") else if bytes_eq name (codes "bad") then name_of (codes "bad") else if bytes_eq name (codes "raise") then name_of (codes "raise") else if bytes_eq name (codes "late") then name_of (codes "late") else None) texts ≡ Ok app → AppAgain app
+    by_text : (c : Bool) → bytes_eq name (codes "text") ≡ c → named_words (if c then name_of (codes "text") else from_echo name_of name) texts ≡ Ok app → AppAgain app
     by_text true is f = let size : length name ≡ 4 = ap length (same_text name (codes "text") is) in text_cases ws texts app (omega (arith, fits, size)) e f
     by_text false is f = by_echo (bytes_eq name (codes "echo")) refl f
 

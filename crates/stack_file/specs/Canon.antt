@@ -4,7 +4,7 @@ use Rattle.std.specs.List.{flat_map}
 use Rattle.builder_core.specs.Plan.{Plan, Item, Done, Then, Uses, Ends, Holds, EndsAny}
 use Rattle.rack_text.specs.Escaped.{escaped}
 use Rattle.stock_apps.specs.declared.app.App.{App}
-use Rattle.stock_apps.specs.declared.app.App.TheVariants.{Text, Echo, Env, Pieces, Stream, Cookies, Bad, Raise, Late}
+use Rattle.stock_apps.specs.declared.app.App.TheVariants.{Text, Echo, Env, Pieces, Stream, Cookies, Bad, Raise, Late, Take, Part}
 use Rattle.stock_middleware.specs.declared.ware.Ware.{Ware}
 use Rattle.stock_middleware.specs.declared.ware.Ware.TheVariants.{Head, ContentLength, ContentType, MethodOverride, SetHeader, Lint}
 use Rattle.stack_file.specs.Said.{last_byte}
@@ -34,6 +34,10 @@ ware_words Lint = codes "lint" ∷ []
 abbrev pub mark : Bool → List (List ℕ)
 mark raises = if raises then codes "!" ∷ [] else []
 
+-- the name of a stock hijacker: upper's, or else echo's
+abbrev pub hijacker_name : Bool → List ℕ
+hijacker_name upper = if upper then codes "upper" else codes "echo"
+
 -- an endpoint: its name and its arguments, numbers without zeros in front
 abbrev pub app_words : App → List (List ℕ)
 app_words (Text status kind body) = codes "text" ∷ decimal status ∷ escaped kind ∷ escaped body ∷ []
@@ -45,6 +49,8 @@ app_words (Cookies values) = codes "cookies" ∷ arguments values
 app_words (Bad numbers) = codes "bad" ∷ map decimal numbers
 app_words (Raise text) = codes "raise" ∷ escaped text ∷ []
 app_words (Late length pieces raises) = codes "late" ∷ decimal length ∷ (arguments pieces ++ mark raises)
+app_words (Take upper) = codes "take" ∷ hijacker_name upper ∷ []
+app_words (Part status upper) = codes "part" ∷ decimal status ∷ hijacker_name upper ∷ []
 
 -- there is no last byte, or it is `/`
 abbrev pub wants_slash : Option ℕ → Bool

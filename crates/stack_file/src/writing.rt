@@ -119,6 +119,14 @@ fn put_two(name: &[u8], first: &[u8], second: &[u8], out: &mut Vec<u8>) -> Resul
     put_text(second, out)
 }
 
+// A name and any number of texts.
+fn put_all(name: &[u8], texts: &[Bytes], out: &mut Vec<u8>) -> Result<(), NoMemory>
+    ensures { OnOk result (out.new.items ≡ out.old.items ++ spec.spaced (name.now ∷ spec.arguments texts.now)) }
+{
+    put_word(name, out)?;
+    put_texts(texts, out)
+}
+
 fn write_map(place: &[u8], margin: &[u8], out: &mut Vec<u8>) -> Result<(), NoMemory>
     ensures { OnOk result (out.new.items ≡ out.old.items ++ spec.line margin.now (codes "map") (escaped (spec.place_text place.now) ∷ [])) }
 {
@@ -184,22 +192,13 @@ fn write_app(app: &App, out: &mut Vec<u8>) -> Result<(), NoMemory>
             put_number(u64::from(*status), out)?;
             put_texts(pieces.get(), out)
         }
-        App::Stream(pieces) => {
-            put_word(b"stream", out)?;
-            put_texts(pieces.get(), out)
-        }
-        App::Cookies(values) => {
-            put_word(b"cookies", out)?;
-            put_texts(values.get(), out)
-        }
+        App::Stream(pieces) => put_all(b"stream", pieces.get(), out),
+        App::Cookies(values) => put_all(b"cookies", values.get(), out),
         App::Bad(numbers) => {
             put_word(b"bad", out)?;
             put_numbers(numbers.get(), out)
         }
-        App::Raise(text) => {
-            put_word(b"raise", out)?;
-            put_text(text.get(), out)
-        }
+        App::Raise(text) => put_one(b"raise", text.get(), out),
         App::Late {
             length,
             pieces,
@@ -210,7 +209,23 @@ fn write_app(app: &App, out: &mut Vec<u8>) -> Result<(), NoMemory>
             put_texts(pieces.get(), out)?;
             put_mark(*raises, out)
         }
+        App::Take { upper } => {
+            put_word(b"take", out)?;
+            put_word(hijacker_name(*upper), out)
+        }
+        App::Part { status, upper } => {
+            put_word(b"part", out)?;
+            put_number(u64::from(*status), out)?;
+            put_word(hijacker_name(*upper), out)
+        }
     }
+}
+
+// The name of a stock hijacker.
+fn hijacker_name(upper: bool) -> &'static [u8]
+    ensures { result.now ≡ spec.hijacker_name upper }
+{
+    if upper { b"upper" } else { b"echo" }
 }
 
 // What marks a body that raises.
