@@ -67,19 +67,19 @@ told_sound state.Hijacked w h = λ e. cc (e, h)
 told_sound state.Over w h = λ e. elim h [ inl x ↦ cc (e, x) | inr x ↦ cc (e, x) ]
 
 -- a read fails only where that was counted
-read_fails : (b : State) (a : LinkRead) (o n : Shown) (s u : Seen) → BehindRead b a o n → FeedEnds a s u → n.why ≡ Some why.ReadFailed
+read_fails : (b : State) (a : LinkRead) (o n : Shown) (s u : Seen) → o.why ≡ None → BehindRead b a o n → FeedEnds a s u → n.why ≡ Some why.ReadFailed
     → Rose s.failed_reads u.failed_reads
-read_fails state.Reading (read.Bytes n) old new s u h ends e = absurd (fed_sound new.state new.why h.0 e)
-read_fails state.Reading read.NotYet old new s u h ends e = cc (e, h.1)
-read_fails state.Reading read.End old new s u h ends e = cc (e, h.1)
-read_fails state.Reading read.Failed old new s u h ends e = ends.1
-read_fails state.Ready a old new s u h ends e = absurd h
-read_fails state.Answering a old new s u h ends e = absurd h
-read_fails state.Hijacked (read.Bytes n) old new s u h ends e = absurd (told_sound new.state new.why h e)
-read_fails state.Hijacked read.NotYet old new s u h ends e = cc (e, h.1)
-read_fails state.Hijacked read.End old new s u h ends e = absurd (told_sound new.state new.why h.0 e)
-read_fails state.Hijacked read.Failed old new s u h ends e = ends.1
-read_fails state.Over a old new s u h ends e = absurd h
+read_fails state.Reading (read.Bytes n) old new s u none h ends e = absurd (fed_sound new.state new.why h.0 e)
+read_fails state.Reading read.NotYet old new s u none h ends e = cc (e, h.1)
+read_fails state.Reading read.End old new s u none h ends e = cc (e, h.1)
+read_fails state.Reading read.Failed old new s u none h ends e = ends.1
+read_fails state.Ready a old new s u none h ends e = absurd h
+read_fails state.Answering a old new s u none h ends e = absurd h
+read_fails state.Hijacked (read.Bytes n) old new s u none h ends e = absurd (told_sound new.state new.why h e)
+read_fails state.Hijacked read.NotYet old new s u none h ends e = cc (e, h.1)
+read_fails state.Hijacked read.End old new s u none h ends e = absurd (told_sound new.state new.why h.0 e)
+read_fails state.Hijacked read.Failed old new s u none h ends e = ends.1
+read_fails state.Over a old new s u none h ends e = absurd h
 
 -- by a feed
 feed_ends_by : (w : Option Why) (s u : Seen) → IsOfFeed w → (w ≡ Some why.ReadFailed → Rose s.failed_reads u.failed_reads) → EndsSo w s u
@@ -96,8 +96,8 @@ feed_ends_by (Some (why.Halted level)) s u h fails = h
 feed_ends_by (Some why.NoMemory) s u h fails = tt
 feed_ends_by (Some why.Hijacked) s u h fails = tt
 
-pub feed_ends : (a : Next) (o n : Shown) (s u : Seen) → Feeds a o n s u → EndsSo n.why s u
-feed_ends a o n s u h = feed_ends_by n.why s u h.why (read_fails o.state h.answer o n s u h.once.behind h.ends)
+pub feed_ends : (a : Next) (o n : Shown) (s u : Seen) → o.why ≡ None → Feeds a o n s u → EndsSo n.why s u
+feed_ends a o n s u none h = feed_ends_by n.why s u h.why (read_fails o.state h.answer o n s u none h.once.behind h.ends)
 
 -- only so a connection ends that nobody drains, halts or times
 pub of_once : (w : Why) (s u : Seen) → EndsSo (Some w) s u → IsOfOnce w

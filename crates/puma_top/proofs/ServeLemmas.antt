@@ -1,5 +1,5 @@
 -- How one connection ends, told of its source and its sink.
-use Rattle.std.proofs.Common.{◌≡◌, ℕ, ◌≤◌, Bool, true, false, List, [], ◌++◌, length, take, drop, sym, ap, subst, ◌∙◌, refl, Option, None, Some, IfSome, codes, inl, inr}
+use Rattle.std.proofs.Common.{◌≡◌, ℕ, ◌≤◌, Bool, true, false, List, [], ◌++◌, length, take, drop, sym, ap, subst, ◌∙◌, refl, Option, None, Some, IfSome, codes, ◌⊎◌, inl, inr}
 use Rattle.std.proofs.lemmas.List.{take-append-drop}
 use Rattle.rack_types.specs.declared.peer.Local.{Local}
 use Rattle.rack_outside.specs.Link.{Seen, Tells}
@@ -14,13 +14,13 @@ use Rattle.talk_core.specs.Ended.{Past, IsClosed, IsUntaken}
 use Rattle.talk_core.specs.Tail.{Voice, goes_on}
 use Rattle.talk_core.specs.Talk.{Stop, wanting, refused, closed, hijacked}
 use Rattle.talk_core.specs.Teller.{Stacks, Teller, tell}
-use Rattle.talk_core.proofs.CallerLemmas.{begins_answer, begins_less, undrained, answer_whole, answer_closed, answer_handed, answer_stopped, hijack_stops, hijack_untimed}
+use Rattle.talk_core.proofs.CallerLemmas.{begins_answer, begins_less, undrained, answer_whole, answer_closed, closed_on, answer_handed, answer_stopped, stopped_on, hijack_stops, hijack_untimed}
 use Rattle.conn_core.specs.Holds.{past}
 use Rattle.conn_core.specs.Plain.{LacksPlainly}
 use Rattle.conn_core.specs.Opened.{opened}
 use Rattle.conn_core.specs.Shown.{Shown}
 use Rattle.conn_core.proofs.CallerLemmas.{EndsAt, PartAt}
-use Rattle.puma_top.specs.Once.{Site, once_peer, once_local, once_voice, stacks_of, once_lives, teller_of, AnsweredAll, AnsweredSoFar, most_taken, ServedAll, ServedGiven, ServedPart, ServedLess, ServedLong}
+use Rattle.puma_top.specs.Once.{Site, once_peer, once_local, once_voice, stacks_of, once_lives, teller_of, AnsweredAll, AnsweredSoFar, ClosedOn, most_taken, ServedAll, ServedGiven, ServedPart, ServedLess, ServedLong}
 use Rattle.puma_top.specs.Drive.{EndsSo, Drives}
 use Rattle.puma_top.specs.OnceSteps.{Serves, status_by, source_of, sink_of}
 use Rattle.puma_top.specs.Seen.{SourceSeen, SinkSeen}
@@ -74,6 +74,7 @@ module _ (site : Site) (s : Seen) (calls : ℕ) (source : SourceSeen) (sink : Si
         answered = answer_whole once_voice (teller_of site) p h.ends.0 h.ends.1 (closed_untaken h.ends.0 h.ends.2) h.ends.3;
         whole = λ input g i. subst (λ (z : List ℕ). AnsweredAll site z h.sent) (input_is h.given input front g i)
             (answer_closed once_voice (teller_of site) p h.ends.0 h.ends.1 (drop (length h.given) input) h.ends.2 h.ends.3);
+        ended = λ input g i. inr (closed_on once_voice (teller_of site) p h.ends.0 h.ends.1 h.ends.2 h.ends.3);
       }
 
   pub serves_end : (s.over ≡ Some true → IsWhole s.given s.input) → (l : Bool) → s.over ≡ Some l
@@ -87,6 +88,7 @@ module _ (site : Site) (s : Seen) (calls : ℕ) (source : SourceSeen) (sink : Si
         told = told source sink s once_peer h.given h.sent h.over are h.shows;
         answered = all;
         whole = λ input g i. subst (λ (z : List ℕ). AnsweredAll site z h.sent) (all_is h.given input h.over whole l e h.shows.over_is h.ends.2 g i) all;
+        ended = λ input g i. inl (all_is h.given input h.over whole l e h.shows.over_is h.ends.2 g i);
       }
 
   -- a hijacker ended it, or was told the peer's end
@@ -104,6 +106,7 @@ module _ (site : Site) (s : Seen) (calls : ℕ) (source : SourceSeen) (sink : Si
         told = told source sink s once_peer h.given h.sent h.over are h.shows;
         answered = all;
         whole = λ input g i. over_input h.over refl all last input g i;
+        ended = λ input g i. over_ended h.over refl last input g i;
       }
     where
       over_input : (b : Bool) → h.over ≡ b → AnsweredAll site h.given h.sent → goes_on once_voice h.ends.0 h.ends.1 h.over ≡ false → (input : List ℕ)
@@ -116,6 +119,13 @@ module _ (site : Site) (s : Seen) (calls : ℕ) (source : SourceSeen) (sink : Si
           subst (λ (z : List ℕ). AnsweredAll site z h.sent) (input_is h.given input front g i)
           (answer_stopped once_voice (teller_of site) (past s calls h.given h.sent h.over) h.ends.0 h.ends.1 h.ends.2 more h.ends.3 h.ends.4 stopped
           (stock-stops h.ends.0 h.ends.1 more stopped))
+
+      over_ended : (b : Bool) → h.over ≡ b → goes_on once_voice h.ends.0 h.ends.1 h.over ≡ false → (input : List ℕ)
+          → source.given ≡ Some h.given → source.input ≡ Some input → (h.given ≡ input) ⊎ ClosedOn site h.given
+      over_ended true is last input g i = inl (all_is h.given input h.over whole l e h.shows.over_is is g i)
+      over_ended false is last input g i =
+          inr (stopped_on once_voice (teller_of site) (past s calls h.given h.sent h.over) h.ends.0 h.ends.1 h.ends.2 h.ends.3
+          (subst (λ (o : Bool). goes_on once_voice h.ends.0 h.ends.1 o ≡ false) is last))
 
   pub serves_given : EndsAt s once_peer once_voice (teller_of site) calls why.ReadFailed → ServedGiven site source sink
   serves_given h =

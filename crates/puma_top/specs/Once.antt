@@ -5,7 +5,7 @@ use Rattle.rack_outside.specs.Link.{Tells}
 use Rattle.hijack_core.specs.declared.stock.Stock.{Stock}
 use Rattle.hijack_core.specs.Stock.{stock_says, stock_ends}
 use Rattle.talk_core.specs.declared.ended.Life.{Life}
-use Rattle.talk_core.specs.Answer.{IsAnswer, BeginsAnswer, BeginsLess, IsHandedOver}
+use Rattle.talk_core.specs.Answer.{IsAnswer, BeginsAnswer, BeginsLess, IsHandedOver, IsClosedOn}
 use Rattle.talk_core.specs.Tail.{Voice}
 use Rattle.talk_core.specs.Teller.{Stacks, Teller, tell}
 use Rattle.stock_apps.specs.declared.app.App.{App}
@@ -61,6 +61,10 @@ abbrev pub AnsweredSoFar : Site → List ℕ → List ℕ → Type 0
 AnsweredSoFar site bytes written =
     AnsweredAll site bytes written ⊎ (IsHandedOver (teller_of site) bytes × AnsweredInPart site bytes written)
 
+-- on these bytes the connection closed: behind a refusal, by a reply that closes, or where a hijacker ended it
+abbrev pub ClosedOn : Site → List ℕ → Type 0
+ClosedOn site bytes = IsClosedOn once_voice (teller_of site) bytes
+
 -- the bytes that one connection may give
 abbrev pub most_taken : ℕ
 most_taken = 1099511627776
@@ -70,13 +74,15 @@ pub record Told (source : SourceSeen) (sink : SinkSeen) (given written : List �
   pub given_is : Tells source.given given
   pub written_is : Tells sink.written written
 
--- all that was given was answered, and, where the source tells its input and what it gave, all of that
+-- all that was given was answered. Where the source tells its input and what it gave, all of that was answered, and it was
+-- read to its end or the connection closed
 pub record ServedAll (site : Site) (source : SourceSeen) (sink : SinkSeen) : Type 0 where
   pub given : List ℕ
   pub written : List ℕ
   pub told : Told source sink given written
   pub answered : AnsweredAll site given written
   pub whole : (input : List ℕ) → source.given ≡ Some given → source.input ≡ Some input → AnsweredAll site input written
+  pub ended : (input : List ℕ) → source.given ≡ Some given → source.input ≡ Some input → (given ≡ input) ⊎ ClosedOn site given
 
 -- all that was given was answered, unless a hijacker has the connection: then a front of the answer was written
 pub record ServedGiven (site : Site) (source : SourceSeen) (sink : SinkSeen) : Type 0 where

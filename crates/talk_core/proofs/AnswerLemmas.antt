@@ -6,7 +6,7 @@ use Rattle.hijack_core.specs.declared.hijack.Said.{Said}
 use Rattle.rack_types.specs.Request.{Parts}
 use Rattle.message_framing.proofs.CallerLemmas.{refusal_stays}
 use Rattle.reply_framing.specs.declared.types.After.TheVariants.{Hijack}
-use Rattle.talk_core.specs.Answer.{IsBehind, IsAnswer, IsHandedOver}
+use Rattle.talk_core.specs.Answer.{IsBehind, IsAnswer, IsHandedOver, EndsItself, IsClosedOn}
 use Rattle.talk_core.specs.Ended.{Past, SentWhole, SentWholeTo, IsClosed, IsUntaken, NeedsDrain, IsTimed}
 use Rattle.talk_core.specs.Laws.{HandsTo}
 use Rattle.talk_core.specs.Stands.{Word, silent, replies, refuses, times_out, hands_over, Stands, IsHijack}
@@ -56,6 +56,12 @@ closed_untaken (refused f) h = tt
 closed_untaken closed h = tt
 closed_untaken hijacked h = absurd h
 
+ends_itself : {H : Type 0} (V : Voice H) (T : Teller H) (asked : List Parts) (stop : Stop) (rest : List ℕ) → IsClosed stop → EndsItself V T asked stop rest
+ends_itself V T asked wanting rest h = absurd h
+ends_itself V T asked (refused f) rest h = tt
+ends_itself V T asked closed rest h = tt
+ends_itself V T asked hijacked rest h = absurd h
+
 closed_final : (stop : Stop) → IsClosed stop → IsFinal stop
 closed_final wanting h = absurd h
 closed_final (refused f) h = tt
@@ -104,6 +110,11 @@ module _ {H : Type 0} (V : Voice H) (T : Teller H) (p : Past) where
     is = h.said_is ∙ sym (append-nil (text T h.asked stop));
   }
 
+  -- and it ended for good
+  pub closed_on : (stop : Stop) (rest : List ℕ) → IsClosed stop → SentWhole T p stop rest p.sent → IsClosedOn V T p.given
+  closed_on stop rest closes h =
+      record { asked = h.asked; stop = stop; rest = rest; talk = h.talk; ends = ends_itself V T h.asked stop rest closes }
+
   hands_to : (h : H) (rest said : List ℕ) (s : SentWholeTo T p h rest said) → HandsTo T s.whole.asked h
   hands_to h rest said s = record {
     front = s.whole.talk.stops.front;
@@ -124,6 +135,11 @@ module _ {H : Type 0} (V : Voice H) (T : Teller H) (p : Past) where
     behind = (h, hands_to h rest said s, tail_last V h rest p.over last);
     is = sent ∙ ap (λ z. z ++ tail_of V h rest p.over) s.whole.said_is;
   }
+
+  -- where it does not go on, it ended for good
+  pub stopped_on : (h : H) (rest said : List ℕ) → SentWholeTo T p h rest said → (V.says h rest).go_on ≡ false → IsClosedOn V T p.given
+  stopped_on h rest said s stopped =
+      record { asked = s.whole.asked; stop = hijacked; rest = rest; talk = s.whole.talk; ends = (h, hands_to h rest said s, stopped) }
 
   -- a hijacker that stopped says nothing to any further bytes
   pub answer_stopped : (h : H) (rest said more : List ℕ) → SentWholeTo T p h rest said → p.sent ≡ said ++ tail_of V h rest p.over

@@ -42,10 +42,11 @@ loop-conn-preserved-in-Reading g c =
     let o = shown c.loop-conn.conn in
     let n = shown c.feed-next.new.self in
     let f = c.feed-next.ensures.feeds in
+    let none : o.why ≡ None = unended c.loop-conn.conn state.Reading (sym c.state.ensures ∙ c.in-Reading.is) (λ e. cc) in
     record {
       drives = driven (shown c.args.conn.now) o n (g.L.Link.seen (link_of c.args.conn.now)) (g.L.Link.seen (link_of c.loop-conn.conn))
           (g.L.Link.seen (link_of c.feed-next.new.self)) 1 0 i.drives f.moved
-          (feed_ends c.feed-next.result o n (g.L.Link.seen (link_of c.loop-conn.conn)) (g.L.Link.seen (link_of c.feed-next.new.self)) f);
+          (feed_ends c.feed-next.result o n (g.L.Link.seen (link_of c.loop-conn.conn)) (g.L.Link.seen (link_of c.feed-next.new.self)) none f);
       counts = i.counts ∙ sym f.calls;
       steady = i.steady;
       holds = λ S steady answers h. c.feed-next.ensures.holds S (i.holds S steady answers h);
@@ -148,11 +149,12 @@ loop-conn-preserved g c =
     let o = shown c.loop-conn.conn in
     let n = shown c.feed-next-else-wants_write.new.self in
     let f = c.feed-next-else-wants_write.ensures.feeds in
+    let none : o.why ≡ None = unended c.loop-conn.conn state.Hijacked (sym c.state.ensures ∙ c.in-Hijacked.is) (λ e. cc) in
     record {
       drives = driven (shown c.args.conn.now) o n (g.L.Link.seen (link_of c.args.conn.now)) (g.L.Link.seen (link_of c.loop-conn.conn))
           (g.L.Link.seen (link_of c.feed-next-else-wants_write.new.self)) 1 0 i.drives f.moved
           (feed_ends c.feed-next-else-wants_write.result o n (g.L.Link.seen (link_of c.loop-conn.conn))
-          (g.L.Link.seen (link_of c.feed-next-else-wants_write.new.self)) f);
+          (g.L.Link.seen (link_of c.feed-next-else-wants_write.new.self)) none f);
       counts = i.counts ∙ sym f.calls;
       steady = i.steady;
       holds = λ S steady answers h. c.feed-next-else-wants_write.ensures.holds S (i.holds S steady answers h);
