@@ -1,4 +1,4 @@
-use Rattle.std.proofs.Common.{◌≡◌, ◌<◌, [], refl, sym, ◌∙◌, arith, inr}
+use Rattle.std.proofs.Common.{◌≡◌, ◌<◌, [], None, refl, sym, ◌∙◌, arith, inr}
 use Rattle.conn_core.specs.declared.state.State.TheVariants as state
 use Rattle.conn_core.specs.Shown.{shown, link_of}
 use Rattle.conn_core.proofs.CallerLemmas.{unended, few_calls}
