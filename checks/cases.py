@@ -14,6 +14,7 @@ import bodies
 import connections
 import endpoints
 import heads
+import hijacks
 import launcher
 import memory
 import middleware
@@ -41,6 +42,7 @@ GROUPS = (
     connections.check_kept, connections.check_pipelined, connections.check_ends, connections.check_waiting_writers,
     endpoints.check_rows, endpoints.check_endpoints, endpoints.check_broken, endpoints.check_statuses,
     endpoints.check_long, endpoints.check_environments,
+    hijacks.check_rows, hijacks.check_pipelined, hijacks.check_long, hijacks.check_reads,
 )
 
 

@@ -5,7 +5,7 @@ is taken from the program.
 
 import re
 
-from stack_answers import TOKEN, broken_answer, is_bare, stack_of
+from stack_answers import TOKEN, Reply, Taken, broken_answer, is_bare, stack_of, tail
 from stack_file import read, written
 from wanted import (BODY_LIMIT, FILE_LIMIT, HEAD_LIMIT, LINE_LIMIT, LONG, REQUEST_LIMIT, SIZE_LINE_LIMIT, TRAILER_LIMIT,
                     bad_stack, refusal, served)
@@ -211,12 +211,16 @@ def pairs(request, hijack):
 
 # Replies
 
-def framed(request, answered, last):
-    """The bytes of the reply, and whether the connection closes behind them."""
-    rule = broken_answer(request.method, answered)
+def framed(request, env, answered, last):
+    """The bytes of the reply, whether the connection closes behind them, and the hijacker that goes on, or none."""
+    rule = broken_answer(env, answered)
     if rule is not None:
-        answered = (500, [(b"x-puma-fault", b"L%d" % rule), (b"content-length", b"0")], [], True, False)
-    status, headers, pieces, known, raises = answered
+        answered = Reply(500, [(b"x-puma-fault", b"L%d" % rule), (b"content-length", b"0")], [], True, False)
+    if isinstance(answered, Taken):
+        return b"", False, answered.hijacker
+    status, headers, pieces, known, raises, part = answered
+    if part is not None:
+        return head_of(status, headers, is_left_out_of_part) + b"\r\n", False, part
     body, breaks, closing, line = b"", False, False, b""
     promised = next((int(value) for name, value in headers if name == b"content-length"), None)
     if request.method == b"HEAD" or is_bare(status):
@@ -241,17 +245,27 @@ def framed(request, answered, last):
         line += b"connection: close\r\n"
     elif request.version == b"HTTP/1.0":
         line += b"connection: keep-alive\r\n"
-    head = b"HTTP/1.1 %d %s\r\n" % (status, REASONS.get(status, "").encode())
-    head += b"".join(name + b": " + value + b"\r\n" for name, value in headers if not is_left_out(name))
-    return head + line + b"\r\n" + body, closes or breaks
+    return head_of(status, headers, is_left_out) + line + b"\r\n" + body, closes or breaks, None
+
+
+def head_of(status, headers, leaves_out):
+    """The status line and the headers that are not left out."""
+    line = b"HTTP/1.1 %d %s\r\n" % (status, REASONS.get(status, "").encode())
+    return line + b"".join(name + b": " + value + b"\r\n" for name, value in headers if not leaves_out(name))
+
+
+def is_left_out_of_part(name):
+    return name.startswith(b"rack.") or name == b"transfer-encoding"
 
 
 def is_left_out(name):
-    return name.startswith(b"rack.") or name in (b"transfer-encoding", b"connection")
+    return is_left_out_of_part(name) or name == b"connection"
 
 
 def replies(file, text, hijack=True):
-    """The replies that this input is answered by, one by one. Also, whether the connection closed behind them."""
+    """The replies that this input is answered by, one by one, and at a hijack what the hijacker says. Also, whether
+    the connection closed behind them.
+    """
     stack, said = stack_of(file), []
     while True:
         found = stands(text)
@@ -259,12 +273,14 @@ def replies(file, text, hijack=True):
             return said, False
         if isinstance(found, str):
             return [*said, refusal(found)], True
-        answered = stack(dict(pairs(found, hijack)), found.body)
-        reply, closes = framed(found, answered, len(said) + 1 == REQUEST_LIMIT)
+        env = dict(pairs(found, hijack))
+        reply, closes, hijacker = framed(found, env, stack(env, found.body), len(said) + 1 == REQUEST_LIMIT)
         said.append(reply)
+        text = text[found.taken:]
+        if hijacker is not None:
+            return [*said, tail(hijacker, text)], hijacker == b"upper" and b"\x04" in text
         if closes:
             return said, True
-        text = text[found.taken:]
 
 
 # Status, output and errors of the commands

@@ -51,6 +51,7 @@ class Dice:
             [b"pieces", status, *self.some(PIECES, [0, 1, 3])], [b"stream", *self.some(PIECES, [0, 1, 3])],
             [b"cookies", *self.some(VALUES, [1, 2])], [b"bad",
                                                        *self.some([b"1", b"2", b"4", b"6", b"7", b"010"], [1, 2, 8])],
+            [b"take", self.one([b"echo", b"upper", b"\\x65cho"])], [b"part", status, self.one([b"echo", b"upper"])],
             [b"raise", self.one(PIECES)], [b"late", self.one([b"0", b"1", b"005", b"3"]),
                                            *self.some(PIECES, [0, 1, 2])],
         ]))

@@ -2,15 +2,19 @@
 block become one application. Nothing of it is taken from the program.
 
 An application is a function of an environment, which is a dictionary in the order of its pairs, and of a body. An
-answer is raised, or a status, headers, pieces, whether their length is known, and whether the body raises at its end.
+answer is raised, or taken by a hijacker, or a status, headers, pieces, whether their length is known, whether the body
+raises at its end, and the hijacker that goes on behind the head, or none.
 """
 
 import re
+from collections import namedtuple
 
 from stack_file import escaped, number, parted, read
 
 TOKEN = rb"[!#$%&'*+\-.^_`|~0-9A-Za-z]+"
 RAISED = "raised"
+Taken = namedtuple("Taken", "hijacker")
+Reply = namedtuple("Reply", "status headers pieces known raises part", defaults=(None,))
 PLAIN = (b"content-type", b"text/plain")
 BAD = {
     2: (b"a b", b"x"), 3: (b"status", b"x"), 4: (b"X-Upper", b"x"), 5: (b"x-five", b"a\1"), 6: PLAIN,
@@ -24,30 +28,39 @@ METHODS = b"GET HEAD PUT POST DELETE OPTIONS PATCH LINK UNLINK".split()
 
 def endpoint_answer(name, arguments, env, body):
     if name == b"text":
-        return int(arguments[0]), [(b"content-type", arguments[1])], [arguments[2]], True, False
+        return Reply(int(arguments[0]), [(b"content-type", arguments[1])], [arguments[2]], True, False)
     if name == b"echo":
-        return 200, [PLAIN], [body], True, False
+        return Reply(200, [PLAIN], [body], True, False)
     if name == b"env":
         lines = b"".join(name + b"=" + escaped(value) + b"\n" for name, value in env.items())
-        return 200, [PLAIN], [lines], True, False
+        return Reply(200, [PLAIN], [lines], True, False)
     if name == b"pieces":
-        return int(arguments[0]), [PLAIN], arguments[1:], False, False
+        return Reply(int(arguments[0]), [PLAIN], arguments[1:], False, False)
     if name == b"stream":
-        return 200, [PLAIN], arguments, False, False
+        return Reply(200, [PLAIN], arguments, False, False)
     if name == b"cookies":
-        return 200, [(b"set-cookie", value) for value in arguments], [], True, False
+        return Reply(200, [(b"set-cookie", value) for value in arguments], [], True, False)
     if name == b"bad":
         numbers = [int(n) for n in arguments]
         status = 99 if 1 in numbers else 204 if 6 in numbers or 7 in numbers else 200
         values = [BAD[n] for n in numbers if n in BAD]
         # The values of one name stand together, where it first comes.
         names = list(dict.fromkeys(name for name, _ in values))
-        return status, [pair for name in names for pair in values if pair[0] == name], [b"ok"], True, False
+        return Reply(status, [pair for name in names for pair in values if pair[0] == name], [b"ok"], True, False)
     if name == b"late":
         raises = arguments[1:] and arguments[-1] == b"!"
         pieces = arguments[1:-1] if raises else arguments[1:]
-        return 200, [(b"content-length", arguments[0])], pieces, False, bool(raises)
+        return Reply(200, [(b"content-length", arguments[0])], pieces, False, bool(raises))
+    if name == b"take":
+        return Taken(arguments[0])
+    if name == b"part":
+        return Reply(int(arguments[0]), [], [], False, False, arguments[1])
     return RAISED
+
+
+def tail(hijacker, rest):
+    """What a hijacker says to all that comes behind the request: to the end, or up to the byte at which it stops."""
+    return rest if hijacker == b"echo" else rest.partition(b"\x04")[0].upper()
 
 
 # The rules for environments and for answers
@@ -75,11 +88,15 @@ def broken_environment(env):
     return next((rule for rule, stands in broken.items() if stands), None)
 
 
-def broken_answer(method, answered, full=False):
+def broken_answer(env, answered, full=False):
     """The number of the least rule for answers that is broken, or none. The full set has one rule more."""
     if answered == RAISED:
         return 0
-    status, headers, pieces, known, _ = answered
+    may_hijack = env.get(b"rack.hijack?") == b"true"
+    if isinstance(answered, Taken):
+        return None if may_hijack else 9
+    method = env.get(b"REQUEST_METHOD")
+    status, headers, pieces, known, _, part = answered
     names = [name for name, _ in headers]
     lengths = [value for name, value in headers if name == b"content-length"]
     is_number = len(lengths) == 1 and number(lengths[0], 0, 2 ** 64 - 1)
@@ -93,6 +110,7 @@ def broken_answer(method, answered, full=False):
         6: is_bare(status) and b"content-type" in names,
         7: is_bare(status) and b"content-length" in names,
         8: lengths and not is_number,
+        9: part is not None and not may_hijack,
         10: is_number and known and int(lengths[0]) != size and method != b"HEAD" and not is_bare(status),
         11: full and method == b"HEAD" and known and size > 0,
     }
@@ -110,12 +128,12 @@ def wrapped(name, arguments, inner):
         answered = inner(env, body)
         if answered == RAISED:
             return answered
-        rule = broken_answer(env[b"REQUEST_METHOD"], answered, full=True)
+        rule = broken_answer(env, answered, full=True)
         return answered if rule is None else named(b"L%d" % rule)
 
     def changed(env, body):
         answered = inner(env, body)
-        return answered if answered == RAISED else AFTER[name](arguments, env, answered)
+        return AFTER[name](arguments, env, answered) if isinstance(answered, Reply) else answered
 
     if name == b"lint":
         return lint
@@ -125,7 +143,7 @@ def wrapped(name, arguments, inner):
 
 
 def named(rule):
-    return 500, [(b"x-lint", rule), (b"content-length", b"0")], [], True, False
+    return Reply(500, [(b"x-lint", rule), (b"content-length", b"0")], [], True, False)
 
 
 def overridden(env, body):
@@ -149,29 +167,27 @@ def form_pairs(body):
 
 
 def after_head(_, env, answered):
-    status, headers, pieces, known, raises = answered
-    return (status, headers, [], True, False) if env[b"REQUEST_METHOD"] == b"HEAD" else answered
+    return answered._replace(pieces=[], known=True, raises=False) if env[b"REQUEST_METHOD"] == b"HEAD" else answered
 
 
 def after_length(_, env, answered):
-    status, headers, pieces, known, raises = answered
-    has = [name for name, _ in headers if name in (b"content-length", b"transfer-encoding")]
-    more = [] if has or is_bare(status) or not known else [(b"content-length", b"%d" % len(b"".join(pieces)))]
-    return status, headers + more, pieces, known, raises
+    has = [name for name, _ in answered.headers if name in (b"content-length", b"transfer-encoding")]
+    none = has or is_bare(answered.status) or not answered.known
+    more = [] if none else [(b"content-length", b"%d" % len(b"".join(answered.pieces)))]
+    return answered._replace(headers=answered.headers + more)
 
 
 def after_type(arguments, env, answered):
-    status, headers, pieces, known, raises = answered
-    has = [name for name, _ in headers if name == b"content-type"]
-    more = [] if has or is_bare(status) else [(b"content-type", arguments[0])]
-    return status, headers + more, pieces, known, raises
+    has = [name for name, _ in answered.headers if name == b"content-type"]
+    more = [] if has or is_bare(answered.status) else [(b"content-type", arguments[0])]
+    return answered._replace(headers=answered.headers + more)
 
 
 def after_set(arguments, env, answered):
-    status, headers, pieces, known, raises = answered
+    headers = answered.headers
     at = next((at for at, (name, _) in enumerate(headers) if name == arguments[0]), len(headers))
     others = [pair for pair in headers[at:] if pair[0] != arguments[0]]
-    return status, [*headers[:at], tuple(arguments), *others], pieces, known, raises
+    return answered._replace(headers=[*headers[:at], tuple(arguments), *others])
 
 
 AFTER = {b"head": after_head, b"content_length": after_length, b"content_type": after_type, b"set_header": after_set}
@@ -189,7 +205,7 @@ def by_place(rows):
             rest = path[len(place):]
             if path.startswith(place) and (rest == b"" or rest.startswith(b"/")):
                 return application({**env, b"SCRIPT_NAME": script + place, b"PATH_INFO": rest}, body)
-        return 404, [PLAIN, (b"x-cascade", b"pass")], [b"Not Found: " + path], True, False
+        return Reply(404, [PLAIN, (b"x-cascade", b"pass")], [b"Not Found: " + path], True, False)
 
     return called
 
@@ -197,10 +213,10 @@ def by_place(rows):
 def in_turn(applications):
     """The first answer that isn't passed over, else the last one."""
     def called(env, body):
-        answered = 404, [], [], True, False
+        answered = Reply(404, [], [], True, False)
         for application in applications:
             answered = application(env, body)
-            if answered == RAISED or answered[0] not in (404, 405):
+            if not isinstance(answered, Reply) or answered.status not in (404, 405):
                 break
         return answered
 

@@ -59,7 +59,11 @@ ENDPOINTS = {
     b"bad": (1, 8, (8, (1, 2, 3, 4, 5, 6, 7, 8, 10))),
     b"raise": (1, 1, NO_NUMBERS),
     b"late": (1, MANY, (1, range(0, 1000001))),
+    b"take": (1, 1, NO_NUMBERS),
+    b"part": (2, 2, STATUS),
 }
+# The last argument of `take` and `part` is one of these.
+HIJACKERS = (b"echo", b"upper")
 # The other first words, and how many arguments each has.
 OTHERS = {b"map": 1, b"end": 0, b"cascade": 0}
 NAMES = {b"use": MIDDLEWARE, b"run": ENDPOINTS}
@@ -127,6 +131,8 @@ def broken_rule(words, around, steps):
     if None in texts or not all(is_among(text, numbers[1]) for text in texts[:numbers[0]]):
         return 5
     if verb == b"map" and not texts[0].startswith(b"/"):
+        return 5
+    if verb == b"run" and words[1] in (b"take", b"part") and texts[-1] not in HIJACKERS:
         return 5
     if verb == b"end" and len(around) == 1:
         return 6

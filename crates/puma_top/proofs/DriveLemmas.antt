@@ -1,23 +1,23 @@
 -- What the steps of a connection leave that is driven, and that they come to an end.
-use Rattle.std.proofs.Common.{◌≡◌, ◌≢◌, ℕ, zero, suc, ◌+◌, ◌-◌, ◌*◌, ◌^◌, ◌<◌, ◌≤◌, min, List, length, refl, sym, ap, subst, ◌∙◌, arith, Option, None, Some}
-use Rattle.rack_types.specs.declared.answer.Answer.{Answer}
-use Rattle.rack_types.specs.Body.{Content}
+use Rattle.std.proofs.Common.{◌≡◌, ◌≢◌, ℕ, suc, ◌+◌, ◌-◌, ◌*◌, ◌^◌, ◌<◌, ◌≤◌, min, List, [], ◌∷◌, length, refl, sym, ap, subst, ◌∙◌, arith, None, inl, inr}
 use Rattle.rack_types.specs.Env.{Pairs}
 use Rattle.rack_outside.specs.Link.{Seen}
 use Rattle.rack_outside.specs.Told.{Rose}
-use Rattle.talk_core.specs.Counts.{counted_by}
+use Rattle.reply_framing.specs.declared.types.After.{After}
+use Rattle.reply_framing.specs.declared.types.After.TheVariants.{Keep, Close, Hijack}
 use Rattle.talk_core.specs.declared.ended.Life.{Life}
-use Rattle.talk_core.specs.declared.ended.Why.{Why}
 use Rattle.talk_core.specs.Teller.{Stack, Stacks, last_phase}
-use Rattle.conn_core.specs.Calls.{TurnEnds, RestsBehind, Feeds, Turns, Flushes}
+use Rattle.conn_core.specs.Calls.{RestsBehind, Feeds, Turns, Flushes}
 use Rattle.conn_core.specs.Shown.{Shown, Moved}
 use Rattle.conn_core.specs.declared.state.Next.{Next}
 use Rattle.conn_core.specs.declared.state.Next.TheVariants as next
 use Rattle.conn_core.specs.declared.state.State.{State}
 use Rattle.conn_core.specs.declared.state.State.TheVariants as state
-use Rattle.conn_core.proofs.CallerLemmas.{moved_none, moved_then, ends_then, taken_by}
-use Rattle.puma_top.specs.Drive.{Drives, left_of, still_left, owing, still_owing}
+use Rattle.conn_core.proofs.CallerLemmas.{moved_none, moved_then, taken_by}
+use Rattle.puma_top.specs.Drive.{EndsSo, Drives, left_of, left_to, still_left, owing, still_owing, saying, still_saying, IsSaid}
 use Rattle.puma_top.specs.Once.{most_taken}
+use Rattle.puma_top.proofs.EndsLemmas.{ends_on}
+use Rattle.puma_top.proofs.HeardLemmas.{heard_end, heard_state}
 
 -- at the start
 pub driven_none : (o : Shown) (s : Seen) → o.why ≡ None → Drives o o s s
@@ -25,16 +25,16 @@ driven_none o s none = record {
   reads = 0;
   writes = 0;
   moved = moved_none o s;
-  ends = subst (λ (w : Option Why). TurnEnds w s s) (sym none) refl;
+  ends = subst (λ w. EndsSo w s s) (sym none) tt;
 }
 
 -- one step more
-pub driven : (o m n : Shown) (s t u : Seen) (x y : ℕ) → Drives o m s t → m.why ≡ None → Moved m n t u x y → TurnEnds n.why t u → Drives o n s u
-driven o m n s t u x y d none moved ends = record {
+pub driven : (o m n : Shown) (s t u : Seen) (x y : ℕ) → Drives o m s t → Moved m n t u x y → EndsSo n.why t u → Drives o n s u
+driven o m n s t u x y d moved ends = record {
   reads = d.reads + x;
   writes = d.writes + y;
   moved = moved_then o m n s t u d.reads d.writes x y (d.reads + x) (d.writes + y) refl refl d.moved moved;
-  ends = ends_then m.why n.why s t u none d.moved.failed_reads d.moved.failed_writes ends d.ends;
+  ends = ends_on n.why s t u d.moved.failed_reads d.moved.failed_writes ends;
 }
 
 -- nothing waits where no wait is counted
@@ -48,56 +48,138 @@ taken_more o n s u x y few h =
     let is : n.taken ≡ min (o.taken + length h.came) (2 ^ 64 - 1) = h.taken ∙ taken_by (length h.came) o.taken fits in
     omega (arith, few, is)
 
-at_state : (c : Shown) (b : State) → c.state ≡ b → still_left c ≡ left_of b c.taken c.replied
-at_state c b e = ap (λ (x : State). left_of x c.taken c.replied) e
+-- and where some came there are more
+taken_some : (o n : Shown) (s u : Seen) (x y : ℕ) → o.taken < most_taken → (h : Moved o n s u x y) → 0 < length h.came → o.taken < n.taken
+taken_some o n s u x y few h some =
+    let fits : o.taken < 2 ^ 64 = omega (arith, few) in
+    let is : n.taken ≡ min (o.taken + length h.came) (2 ^ 64 - 1) = h.taken ∙ taken_by (length h.came) o.taken fits in
+    omega (arith, few, is, some)
 
--- each step leaves less
+at_state : (c : Shown) (b : State) → c.state ≡ b → still_left c ≡ left_of b c.taken c.replied (left_to c.owed c.after)
+at_state c b e = ap (λ (x : State). left_of x c.taken c.replied (left_to c.owed c.after)) e
+
+-- what is still to be done for a hijacker
+left_few : (owed : List ℕ) (after : After) → left_to owed after ≤ 3
+left_few [] after = omega arith
+left_few (b ∷ bs) Keep = omega arith
+left_few (b ∷ bs) Close = omega arith
+left_few (b ∷ bs) Hijack = omega arith
+
+left_some : (owed : List ℕ) (after : After) → 0 < left_to owed after
+left_some [] after = omega arith
+left_some (b ∷ bs) Keep = omega arith
+left_some (b ∷ bs) Close = omega arith
+left_some (b ∷ bs) Hijack = omega arith
+
+left_none : (owed : List ℕ) (after : After) → owed ≡ [] → left_to owed after ≡ 2
+left_none owed after e = ap (λ (l : List ℕ). left_to l after) e
+
+left_last : (owed : List ℕ) (after : After) → owed ≢ [] → after ≡ Close → left_to owed after ≡ 1
+left_last [] after some e = absurd (some refl)
+left_last (b ∷ bs) after some e = ap (λ (a : After). left_to (b ∷ bs) a) e
+
+left_more : (owed : List ℕ) (after : After) → owed ≢ [] → after ≢ Close → left_to owed after ≡ 3
+left_more [] after some other = absurd (some refl)
+left_more (b ∷ bs) Keep some other = refl
+left_more (b ∷ bs) Close some other = absurd (other refl)
+left_more (b ∷ bs) Hijack some other = refl
+
+-- each step leaves less. This is a read for the reader of requests
 pub feed_less : (a : Next) (o n : Shown) (s u : Seen) → o.state ≡ state.Reading → o.taken < most_taken → s.waits ≡ 0 → u.waits ≡ 0
     → Feeds a o n s u → still_left n < still_left o
-feed_less next.Waiting o n s u is few e f h = absurd (calm s.waits u.waits e f h.tells.2)
+feed_less next.Waiting o n s u is few e f h = absurd (calm s.waits u.waits e f h.tells.3)
 feed_less next.More o n s u is few e f h =
-    let fits : o.taken < 2 ^ 64 = omega (arith, few) in
-    let taken : n.taken ≡ min (o.taken + length h.moved.came) (2 ^ 64 - 1) = h.moved.taken ∙ taken_by (length h.moved.came) o.taken fits in
-    let was : still_left o ≡ 6 * (most_taken - o.taken) + 6 * (10001 - o.replied) + 4 = at_state o state.Reading is in
-    let left : still_left n ≡ 6 * (most_taken - n.taken) + 6 * (10001 - n.replied) + 4 = at_state n state.Reading h.tells.0 in
-    omega (arith, few, taken, was, left, h.tells.1, h.replied)
+    let same : n.state ≡ state.Reading = h.tells.0 ∙ is in
+    let was : still_left o ≡ 6 * (most_taken - o.taken) + 6 * (10001 - o.replied) + 6 = at_state o state.Reading is in
+    let left : still_left n ≡ 6 * (most_taken - n.taken) + 6 * (10001 - n.replied) + 6 = at_state n state.Reading same in
+    elim h.tells.1 [
+      | inl some ↦ let more : o.taken < n.taken = taken_some o n s u 1 0 few h.moved some in omega (arith, few, more, was, left, h.replied)
+      | inr end ↦ absurd (heard_end h.answer o n s u is end same h.once)
+    ]
 feed_less next.Ready o n s u is few e f h =
     let taken : o.taken ≤ n.taken = taken_more o n s u 1 0 few h.moved in
-    let was : still_left o ≡ 6 * (most_taken - o.taken) + 6 * (10001 - o.replied) + 4 = at_state o state.Reading is in
-    let left : still_left n ≡ 6 * (most_taken - n.taken) + 6 * (10001 - n.replied) + 3 = at_state n state.Ready h.tells in
+    let was : still_left o ≡ 6 * (most_taken - o.taken) + 6 * (10001 - o.replied) + 6 = at_state o state.Reading is in
+    let left : still_left n ≡ 6 * (most_taken - n.taken) + 6 * (10001 - n.replied) + 5 = at_state n state.Ready h.tells in
     omega (arith, taken, was, left, h.replied)
 feed_less next.TurnOver o n s u is few e f h = absurd h.tells
 feed_less next.Over o n s u is few e f h =
-    let was : still_left o ≡ 6 * (most_taken - o.taken) + 6 * (10001 - o.replied) + 4 = at_state o state.Reading is in
+    let was : still_left o ≡ 6 * (most_taken - o.taken) + 6 * (10001 - o.replied) + 6 = at_state o state.Reading is in
     let left : still_left n ≡ 0 = at_state n state.Over h.tells in
     omega (arith, was, left)
 
-turned_less : (b : State) (t r x q : ℕ) → t ≤ x → RestsBehind b r q → left_of b x q < left_of state.Ready t r
-turned_less state.Reading t r x q more h = omega (arith, more, h.0, h.1)
-turned_less state.Ready t r x q more h = omega (arith, more, h.0, h.1)
-turned_less state.Answering t r x q more h = omega (arith, more, h)
-turned_less state.Hijacked t r x q more h = absurd h
-turned_less state.Over t r x q more h = omega arith
+turned_less : (b : State) (t r x q h : ℕ) → t ≤ x → h ≤ 3 → RestsBehind b r q → left_of b x q h < left_of state.Ready t r h
+turned_less state.Reading t r x q h more few rests = omega (arith, more, rests.0, rests.1)
+turned_less state.Ready t r x q h more few rests = omega (arith, more, rests.0, rests.1)
+turned_less state.Answering t r x q h more few rests = omega (arith, more, rests)
+turned_less state.Hijacked t r x q h more few rests = omega (arith, more, few)
+turned_less state.Over t r x q h more few rests = omega arith
 
 pub turn_less : (a : Next) (o n : Shown) (s u : Seen) → o.state ≡ state.Ready → o.taken < most_taken → Turns a o n s u → still_left n < still_left o
 turn_less a o n s u is few h =
-    let less : still_left n < left_of state.Ready o.taken o.replied =
-    turned_less n.state o.taken o.replied n.taken n.replied (taken_more o n s u h.reads h.writes few h.moved) h.rests in
+    let less : still_left n < left_of state.Ready o.taken o.replied (left_to n.owed n.after) =
+    turned_less n.state o.taken o.replied n.taken n.replied (left_to n.owed n.after) (taken_more o n s u h.reads h.writes few h.moved)
+    (left_few n.owed n.after) h.rests in
     subst (λ (k : ℕ). still_left n < k) (sym (at_state o state.Ready is)) less
 
-said_less : (b : State) (t r x q : ℕ) → t ≤ x → RestsBehind b r q → b ≢ state.Answering → left_of b x q < left_of state.Answering t r
-said_less state.Reading t r x q more h not = omega (arith, more, h.0, h.1)
-said_less state.Ready t r x q more h not = omega (arith, more, h.0, h.1)
-said_less state.Answering t r x q more h not = absurd (not refl)
-said_less state.Hijacked t r x q more h not = absurd h
-said_less state.Over t r x q more h not = omega arith
+said_less : (b : State) (t r x q h : ℕ) → t ≤ x → h ≤ 3 → RestsBehind b r q → b ≢ state.Answering → left_of b x q h < left_of state.Answering t r h
+said_less state.Reading t r x q h more few rests other = omega (arith, more, rests.0, rests.1)
+said_less state.Ready t r x q h more few rests other = omega (arith, more, rests.0, rests.1)
+said_less state.Answering t r x q h more few rests other = absurd (other refl)
+said_less state.Hijacked t r x q h more few rests other = omega (arith, more, few)
+said_less state.Over t r x q h more few rests other = omega arith
 
 pub say_less : (o n : Shown) (s u : Seen) → o.state ≡ state.Answering → o.taken < most_taken → Drives o n s u → RestsBehind n.state o.replied n.replied
     → n.state ≢ state.Answering → still_left n < still_left o
-say_less o n s u is few h rests not =
-    let less : still_left n < left_of state.Answering o.taken o.replied =
-    said_less n.state o.taken o.replied n.taken n.replied (taken_more o n s u h.reads h.writes few h.moved) rests not in
+say_less o n s u is few h rests other =
+    let less : still_left n < left_of state.Answering o.taken o.replied (left_to n.owed n.after) =
+    said_less n.state o.taken o.replied n.taken n.replied (left_to n.owed n.after) (taken_more o n s u h.reads h.writes few h.moved)
+    (left_few n.owed n.after) rests other in
     subst (λ (k : ℕ). still_left n < k) (sym (at_state o state.Answering is)) less
+
+-- what a hijacker said is written
+pub tail_less : (o n : Shown) (s u : Seen) → o.state ≡ state.Hijacked → o.owed ≢ [] → o.taken < most_taken → Drives o n s u → IsSaid o n
+    → still_left n < still_left o
+tail_less o n s u is some few h said =
+    let was : still_left o ≡ 6 * (most_taken - o.taken) + left_to o.owed o.after = at_state o state.Hijacked is in
+    let taken : o.taken ≤ n.taken = taken_more o n s u h.reads h.writes few h.moved in
+    elim said [
+      | inl over ↦
+          let left : still_left n ≡ 0 = at_state n state.Over over in
+          let more : 0 < left_to o.owed o.after = left_some o.owed o.after in
+          omega (arith, was, left, more)
+      | inr on ↦
+          let left : still_left n ≡ 6 * (most_taken - n.taken) + left_to n.owed n.after = at_state n state.Hijacked on.0 in
+          let none : left_to n.owed n.after ≡ 2 = left_none n.owed n.after on.1 in
+          let more : left_to o.owed o.after ≡ 3 = left_more o.owed o.after some on.2 in
+          omega (arith, was, left, none, more, taken)
+    ]
+
+-- it is told what a read gives
+pub hear_less : (a : Next) (o n : Shown) (s u : Seen) → o.state ≡ state.Hijacked → o.owed ≡ [] → o.taken < most_taken → s.waits ≡ 0 → u.waits ≡ 0
+    → Feeds a o n s u → still_left n < still_left o
+hear_less next.Waiting o n s u is none few e f h = absurd (calm s.waits u.waits e f h.tells.3)
+hear_less next.More o n s u is none few e f h =
+    let was : still_left o ≡ 6 * (most_taken - o.taken) + left_to o.owed o.after = at_state o state.Hijacked is in
+    let two : left_to o.owed o.after ≡ 2 = left_none o.owed o.after none in
+    let left : still_left n ≡ 6 * (most_taken - n.taken) + left_to n.owed n.after = at_state n state.Hijacked (h.tells.0 ∙ is) in
+    elim h.tells.1 [
+      | inl some ↦
+          let more : o.taken < n.taken = taken_some o n s u 1 0 few h.moved some in
+          let three : left_to n.owed n.after ≤ 3 = left_few n.owed n.after in
+          omega (arith, few, more, was, two, left, three)
+      | inr end ↦
+          let taken : o.taken ≤ n.taken = taken_more o n s u 1 0 few h.moved in
+          let last = heard_state h.answer o n s u is h.once in
+          let one : left_to n.owed n.after ≡ 1 = left_last n.owed n.after (last.1 end (h.tells.0 ∙ is)).1 (last.1 end (h.tells.0 ∙ is)).0 in
+          omega (arith, taken, was, two, left, one)
+    ]
+hear_less next.Ready o n s u is none few e f h = elim (heard_state h.answer o n s u is h.once).0 [ inl x ↦ cc (x, h.tells) | inr x ↦ cc (x, h.tells) ]
+hear_less next.TurnOver o n s u is none few e f h = absurd h.tells
+hear_less next.Over o n s u is none few e f h =
+    let was : still_left o ≡ 6 * (most_taken - o.taken) + left_to o.owed o.after = at_state o state.Hijacked is in
+    let two : left_to o.owed o.after ≡ 2 = left_none o.owed o.after none in
+    let left : still_left n ≡ 0 = at_state n state.Over h.tells in
+    omega (arith, was, two, left)
 
 -- each flush leaves less to be said
 owing_at : (c : Shown) (b : State) → c.state ≡ b → still_owing c ≡ owing b (length c.owed)
@@ -115,18 +197,65 @@ pub flush_less : (a : Next) (o n : Shown) (s u : Seen) → o.state ≡ state.Ans
 flush_less next.Waiting o n s u is e f h = absurd (calm s.waits u.waits e f h.tells.2)
 flush_less next.More o n s u is e f h =
     let was : still_owing o ≡ suc (length o.owed) = owing_at o state.Answering is in
-    let left : still_owing n ≡ 0 = owing_at n state.Reading h.tells.0 in
-    omega (arith, was, left)
+    elim h.tells.0 [
+      | inl reads ↦ let left : still_owing n ≡ 0 = owing_at n state.Reading reads in omega (arith, was, left)
+      | inr on ↦ let left : still_owing n ≡ 0 = owing_at n state.Hijacked on.0 in omega (arith, was, left)
+    ]
 flush_less next.Ready o n s u is e f h =
     let was : still_owing o ≡ suc (length o.owed) = owing_at o state.Answering is in
     let left : still_owing n ≡ 0 = owing_at n state.Ready h.tells.0 in
     omega (arith, was, left)
 flush_less next.TurnOver o n s u is e f h =
     subst (λ (k : ℕ). still_owing n < k) (sym (owing_at o state.Answering is))
-    (owing_by n.state h.writes (length n.owed) (length o.owed) h.tells.1 h.falls)
+    (owing_by n.state h.writes (length n.owed) (length o.owed) h.tells.1 (λ same. h.falls (same ∙ sym is)))
 flush_less next.Over o n s u is e f h =
     let was : still_owing o ≡ suc (length o.owed) = owing_at o state.Answering is in
     let left : still_owing n ≡ 0 = owing_at n state.Over h.tells in
+    omega (arith, was, left)
+
+-- and so does each flush of what a hijacker said
+saying_at : (c : Shown) (b : State) → c.state ≡ b → still_saying c ≡ saying b (length c.owed)
+saying_at c b e = ap (λ (x : State). saying x (length c.owed)) e
+
+saying_by : (b : State) (w x y : ℕ) → w ≡ 16 → (b ≡ state.Hijacked → x + w ≤ y + 1) → saying b x < suc y
+saying_by state.Reading w x y e h = omega arith
+saying_by state.Ready w x y e h = omega arith
+saying_by state.Answering w x y e h = omega arith
+saying_by state.Hijacked w x y e h = omega (arith, e, h refl)
+saying_by state.Over w x y e h = omega arith
+
+some_owed : (xs : List ℕ) → xs ≢ [] → 0 < length xs
+some_owed [] some = absurd (some refl)
+some_owed (x ∷ xs) some = omega arith
+
+pub tail_falls : (a : Next) (o n : Shown) (s u : Seen) → o.state ≡ state.Hijacked → o.owed ≢ [] → s.waits ≡ 0 → u.waits ≡ 0 → Flushes a o n s u
+    → still_saying n < still_saying o
+tail_falls next.Waiting o n s u is some e f h = absurd (calm s.waits u.waits e f h.tells.2)
+tail_falls next.More o n s u is some e f h =
+    let was : still_saying o ≡ suc (length o.owed) = saying_at o state.Hijacked is in
+    elim h.tells.0 [
+      | inl reads ↦ let left : still_saying n ≡ 0 = saying_at n state.Reading reads in omega (arith, was, left)
+      | inr on ↦ elim on.1 [
+        | inl answers ↦ absurd (two_states answers is)
+        | inr none ↦
+            let left : still_saying n ≡ suc (length n.owed) = saying_at n state.Hijacked on.0 in
+            let bytes : 0 < length o.owed = some_owed o.owed some in
+            omega (arith, was, left, bytes, ap length none)
+      ]
+    ]
+  where
+    two_states : o.state ≡ state.Answering → o.state ≡ state.Hijacked → ⊥
+    two_states x y = cc
+tail_falls next.Ready o n s u is some e f h =
+    let was : still_saying o ≡ suc (length o.owed) = saying_at o state.Hijacked is in
+    let left : still_saying n ≡ 0 = saying_at n state.Ready h.tells.0 in
+    omega (arith, was, left)
+tail_falls next.TurnOver o n s u is some e f h =
+    subst (λ (k : ℕ). still_saying n < k) (sym (saying_at o state.Hijacked is))
+    (saying_by n.state h.writes (length n.owed) (length o.owed) h.tells.1 (λ same. h.falls (same ∙ sym is)))
+tail_falls next.Over o n s u is some e f h =
+    let was : still_saying o ≡ suc (length o.owed) = saying_at o state.Hijacked is in
+    let left : still_saying n ≡ 0 = saying_at n state.Over h.tells in
     omega (arith, was, left)
 
 -- it rests as behind what came before
@@ -134,7 +263,7 @@ pub rests_on : (b : State) (k r q : ℕ) → k ≤ r → RestsBehind b r q → R
 rests_on state.Reading k r q few h = let more : k < q = omega (arith, few, h.0) in (more, h.1)
 rests_on state.Ready k r q few h = let more : k < q = omega (arith, few, h.0) in (more, h.1)
 rests_on state.Answering k r q few h = omega (arith, few, h)
-rests_on state.Hijacked k r q few h = absurd h
+rests_on state.Hijacked k r q few h = omega (arith, few, h)
 rests_on state.Over k r q few h = tt
 
 pub rests_then : (a b : State) (k r q : ℕ) → a ≡ state.Answering → RestsBehind a k r → RestsBehind b r q → RestsBehind b k q

@@ -1,7 +1,9 @@
 pub mod LawLemmas
+pub mod EndsLemmas
+pub mod HeardLemmas
 pub mod DriveLemmas
+pub mod LongLemmas
 pub mod ServeLemmas
 pub mod QuietLemmas
 pub mod StackLemmas
-pub mod HandsLemmas
 pub mod PrintLemmas

@@ -1,5 +1,5 @@
 -- A text is a stack, or breaks one rule first.
-use Rattle.std.proofs.Common.{◌≡◌, ℕ, List, Option, None, Some, Result, Ok, Err, sym, ap, ◌∙◌}
+use Rattle.std.proofs.Common.{◌≡◌, ℕ, List, None, Some, Result, Ok, Err, sym, ap, ◌∙◌}
 use Rattle.stock_apps.specs.declared.app.App.{App}
 use Rattle.builder_core.specs.Plan.{Plan}
 use Rattle.builder_core.specs.Build.{build_plan}

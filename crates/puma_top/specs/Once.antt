@@ -1,12 +1,13 @@
 -- What one connection is answered by a stack.
-use Rattle.std.specs.Prelude.{◌≡◌, ◌≢◌, ℕ, Bool, List, [], ◌∷◌, ◌++◌, None, codes, false, true, Some, ◌≤◌, length}
+use Rattle.std.specs.Prelude.{◌≡◌, ℕ, Bool, List, [], ◌∷◌, None, codes, Some, ◌≤◌, length, ◌⊎◌, false}
 use Rattle.rack_types.specs.declared.peer.Local.{Local}
 use Rattle.rack_outside.specs.Link.{Tells}
-use Rattle.rack_types.specs.Request.{Parts}
-use Rattle.hijack_core.specs.declared.never.Never.{Never}
+use Rattle.hijack_core.specs.declared.stock.Stock.{Stock}
+use Rattle.hijack_core.specs.Stock.{stock_says, stock_ends}
 use Rattle.talk_core.specs.declared.ended.Life.{Life}
-use Rattle.talk_core.specs.Talk.{Stop, Talk, text}
-use Rattle.talk_core.specs.Teller.{Stacks, Teller, tell, fates_of}
+use Rattle.talk_core.specs.Answer.{IsAnswer, BeginsAnswer, BeginsLess, IsHandedOver, IsClosedOn}
+use Rattle.talk_core.specs.Tail.{Voice}
+use Rattle.talk_core.specs.Teller.{Stacks, Teller, tell}
 use Rattle.stock_apps.specs.declared.app.App.{App}
 use Rattle.stock_apps.specs.Answers.{app_answer}
 use Rattle.builder_core.specs.Tree.{Tree}
@@ -26,8 +27,12 @@ once_peer = codes "127.0.0.1"
 abbrev pub once_local : Bool → Local
 once_local hijack = record { name = codes "localhost"; port = 9292; https = false; hijack = hijack }
 
+-- what its applications hand the connection to: the stock hijackers
+abbrev pub once_voice : Voice Stock
+once_voice = record { says = stock_says; ends = stock_ends }
+
 -- the stack, in each phase
-abbrev pub stacks_of : Site → Stacks Never
+abbrev pub stacks_of : Site → Stacks Stock
 stacks_of site phase = meaning app_answer site.stack
 
 -- the one life of the connection
@@ -35,28 +40,30 @@ abbrev pub once_lives : List Life
 once_lives = record { first = 0; phase = 0 } ∷ []
 
 -- the replies to its requests
-abbrev pub teller_of : Site → Teller Never
+abbrev pub teller_of : Site → Teller Stock
 teller_of site = tell (stacks_of site) once_lives (once_local site.hijack) once_peer None
 
--- these bytes were answered whole: that is the text of the talk on them
-pub record AnsweredAll (site : Site) (bytes written : List ℕ) : Type 0 where
-  pub asked : List Parts
-  pub stop : Stop
-  pub rest : List ℕ
-  pub talk : Talk (fates_of (teller_of site)) bytes asked stop rest
-  pub said : written ≡ text (teller_of site) asked stop
+-- these bytes were answered whole: that is the text of the talk on them, and at a hijack what the hijacker says to the
+-- rest of them and to their end
+abbrev pub AnsweredAll : Site → List ℕ → List ℕ → Type 0
+AnsweredAll site bytes written = IsAnswer once_voice (teller_of site) bytes written
 
--- what was written begins the text of the talk on these bytes
+-- what was written is a front of what answers these bytes
 abbrev pub AnsweredInPart : Site → List ℕ → List ℕ → Type 0
-AnsweredInPart site bytes written =
-    (asked : List Parts) (stop : Stop) (rest : List ℕ) → Talk (fates_of (teller_of site)) bytes asked stop rest
-    → (more : List ℕ) × (text (teller_of site) asked stop ≡ written ++ more)
+AnsweredInPart site bytes written = BeginsAnswer once_voice (teller_of site) bytes written
 
 -- the same, and it is not all of it
 abbrev pub AnsweredLess : Site → List ℕ → List ℕ → Type 0
-AnsweredLess site bytes written =
-    (asked : List Parts) (stop : Stop) (rest : List ℕ) → Talk (fates_of (teller_of site)) bytes asked stop rest
-    → (more : List ℕ) × (text (teller_of site) asked stop ≡ written ++ more) × (more ≢ [])
+AnsweredLess site bytes written = BeginsLess once_voice (teller_of site) bytes written
+
+-- these bytes were answered whole, or at a hijack in part
+abbrev pub AnsweredSoFar : Site → List ℕ → List ℕ → Type 0
+AnsweredSoFar site bytes written =
+    AnsweredAll site bytes written ⊎ (IsHandedOver (teller_of site) bytes × AnsweredInPart site bytes written)
+
+-- on these bytes the connection closed: behind a refusal, by a reply that closes, or where a hijacker ended it
+abbrev pub ClosedOn : Site → List ℕ → Type 0
+ClosedOn site bytes = IsClosedOn once_voice (teller_of site) bytes
 
 -- the bytes that one connection may give
 abbrev pub most_taken : ℕ
@@ -67,20 +74,22 @@ pub record Told (source : SourceSeen) (sink : SinkSeen) (given written : List �
   pub given_is : Tells source.given given
   pub written_is : Tells sink.written written
 
--- all that was given was answered, and, where the source tells its input and what it gave, all of that
+-- all that was given was answered. Where the source tells its input and what it gave, all of that was answered, and it was
+-- read to its end or the connection closed
 pub record ServedAll (site : Site) (source : SourceSeen) (sink : SinkSeen) : Type 0 where
   pub given : List ℕ
   pub written : List ℕ
   pub told : Told source sink given written
   pub answered : AnsweredAll site given written
   pub whole : (input : List ℕ) → source.given ≡ Some given → source.input ≡ Some input → AnsweredAll site input written
+  pub ended : (input : List ℕ) → source.given ≡ Some given → source.input ≡ Some input → (given ≡ input) ⊎ ClosedOn site given
 
--- all that was given was answered
+-- all that was given was answered, unless a hijacker has the connection: then a front of the answer was written
 pub record ServedGiven (site : Site) (source : SourceSeen) (sink : SinkSeen) : Type 0 where
   pub given : List ℕ
   pub written : List ℕ
   pub told : Told source sink given written
-  pub answered : AnsweredAll site given written
+  pub answered : AnsweredSoFar site given written
 
 -- a front of the answer was written
 pub record ServedPart (site : Site) (source : SourceSeen) (sink : SinkSeen) : Type 0 where

@@ -28,7 +28,7 @@ Serves SourceFault site source sink source_then sink_then =
 Serves SinkFault site source sink source_then sink_then = Rose sink.faults sink_then.faults × ServedLess site source_then sink_then
 Serves TooLong site source sink source_then sink_then = ServedLong site source_then sink_then
 
--- nobody drains, halts or times this connection, and no hijacker takes it over
+-- nobody drains, halts or times this connection
 abbrev pub IsOfOnce : Why → Type 0
 IsOfOnce why.Closed = ⊤
 IsOfOnce why.PeerEnd = ⊤
@@ -40,7 +40,7 @@ IsOfOnce why.ReadFailed = ⊤
 IsOfOnce why.WriteFailed = ⊤
 IsOfOnce (why.Halted level) = ⊥
 IsOfOnce why.NoMemory = ⊤
-IsOfOnce why.Hijacked = ⊥
+IsOfOnce why.Hijacked = ⊤
 
 -- the status of a connection that ended so
 abbrev pub status_by : Why → Status

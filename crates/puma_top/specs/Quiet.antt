@@ -14,7 +14,7 @@ use Rattle.stack_file.specs.Canon.{canonical}
 use Rattle.puma_top.specs.Stack.{stack_limit, IsStackOf}
 use Rattle.puma_top.specs.Seen.{FileReads, FilesSeen, SinkSeen, Seen}
 use Rattle.puma_words.specs.Words.{Command, once, check}
-use Rattle.puma_top.specs.Once.{Site, ServedAll, ServedGiven, ServedPart, ServedLess, ServedLong}
+use Rattle.puma_top.specs.Once.{ServedAll, ServedGiven, ServedPart, ServedLess, ServedLong}
 use Rattle.puma_top.specs.Status.{UnlessNoMemory}
 use Rattle.puma_top.specs.declared.status.FileWhy.{FileWhy}
 use Rattle.puma_top.specs.declared.status.FileWhy.TheVariants.{Absent, Long, Failed}
@@ -61,7 +61,7 @@ pub record Served (hijack : Bool) (name : List ℕ) (old new : Seen) : Type 0 wh
   pub good : IsGoodStack name stack old.files new.files
   pub served : ServedAll (record { stack = stack; hijack = hijack }) new.source new.sink
 
--- a read of the connection failed, and all that came before was answered
+-- a read of the connection failed, and all that came before was answered, or at a hijack a part of it
 pub record CutOff (hijack : Bool) (name : List ℕ) (old new : Seen) : Type 0 where
   pub stack : Tree App
   pub good : IsGoodStack name stack old.files new.files

@@ -1,5 +1,5 @@
 -- The steps of a command. This serves inner contracts alone.
-use Rattle.std.specs.Prelude.{◌≡◌, ℕ, ◌⊎◌, List, [], ◌++◌, ◌≢◌, Bool, Option, None, Some, Result, Ok, Err, ⊤}
+use Rattle.std.specs.Prelude.{◌≡◌, ℕ, List, [], ◌++◌, ◌≢◌, Option, Result, Ok, Err, ⊤}
 use Rattle.rack_outside.specs.declared.files.FileRead.TheVariants as read
 use Rattle.rack_outside.specs.Files.{Shelf}
 use Rattle.rack_outside.specs.Link.{Tells}

@@ -1,12 +1,11 @@
 // A connection that never has to wait, driven to its end.
-ghost use Rattle.std.specs.Prelude.{◌≡◌, ◌≢◌, ◌↔◌, ℕ, List, true, IsTrue};
+ghost use Rattle.std.specs.Prelude.{◌≡◌, ◌≢◌, ◌↔◌, [], ℕ, List, true, IsTrue};
 ghost use Rattle.rack_types.specs.Env.{Pairs};
-ghost use Rattle.reply_framing.specs.Hands.{HandsToNobody};
 ghost use Rattle.talk_core.specs.Teller.{Stacks, last_phase};
 ghost use Rattle.conn_core.specs.Calls.{RestsBehind};
 ghost use Rattle.conn_core.specs.Holds.{Holds};
 ghost use Rattle.conn_core.specs.Shown.{shown, link_of};
-ghost use Rattle.puma_top.specs.Drive.{Drives, IsDriven};
+ghost use Rattle.puma_top.specs.Drive.{Drives, IsDriven, IsSaid};
 
 use conn_core::{Conn, State};
 use hijack_core::Hijack;
@@ -22,7 +21,6 @@ pub(crate) fn drive<L: Link, B: Body, H: Hijack + Drop, R: Runner<B, H>>(
     runner: &mut R,
 )
     requires patient { (l : L) → (L.seen l).waits ≡ 0 }
-    requires untaken { (r : R) (ps : Pairs) (input : List ℕ) → HandsToNobody (R.answer r ps input) }
     requires unrun { R.runs runner.old ≡ (shown conn.old).calls }
     requires live { (shown conn.old).state ≢ State.Over }
     ensures drives { Drives (shown conn.old) (shown conn.new) (L.seen (link_of conn.old)) (L.seen (link_of conn.new)) }
@@ -37,14 +35,20 @@ pub(crate) fn drive<L: Link, B: Body, H: Hijack + Drop, R: Runner<B, H>>(
         }
         match conn.state() {
             State::Over => return,
-            State::Hijacked => unreachable!(),
             State::Reading => {
                 let _next = conn.feed(0);
             }
             State::Ready => {
                 let _next = conn.turn(runner, 0);
             }
-            State::Answering => flush_all(conn),
+            State::Answering => say_reply(conn),
+            State::Hijacked => {
+                if conn.wants_write() {
+                    say_tail(conn);
+                } else {
+                    let _next = conn.feed(0);
+                }
+            }
         }
     }
 }
@@ -62,14 +66,42 @@ pub(crate) fn is_over<L: Link, B: Body, H: Hijack + Drop>(conn: &Conn<L, B, H>) 
     }
 }
 
-// Says all that is owed.
-fn flush_all<L: Link, B: Body, H: Hijack + Drop>(conn: &mut Conn<L, B, H>)
+// Whether a reply is under way.
+fn is_answering<L: Link, B: Body, H: Hijack + Drop>(conn: &Conn<L, B, H>) -> bool
+    ensures { IsTrue result ↔ ((shown conn.now).state ≡ State.Answering) }
+{
+    match conn.state() {
+        State::Over => false,
+        State::Reading => false,
+        State::Ready => false,
+        State::Answering => true,
+        State::Hijacked => false,
+    }
+}
+
+// Says the rest of the reply that is under way.
+fn say_reply<L: Link, B: Body, H: Hijack + Drop>(conn: &mut Conn<L, B, H>)
     requires patient { (l : L) → (L.seen l).waits ≡ 0 }
-    requires owes { (shown conn.old).state ≡ State.Answering }
+    requires answers { (shown conn.old).state ≡ State.Answering }
     ensures drives { Drives (shown conn.old) (shown conn.new) (L.seen (link_of conn.old)) (L.seen (link_of conn.new)) }
     ensures calls { (shown conn.new).calls ≡ (shown conn.old).calls }
     ensures rests { RestsBehind (shown conn.new).state (shown conn.old).replied (shown conn.new).replied }
     ensures said { (shown conn.new).state ≢ State.Answering }
+    ensures holds { (S : Stacks H) → Holds L.seen (record { says = H.says; ends = H.ends }) S conn.old → Holds L.seen (record { says = H.says; ends = H.ends }) S conn.new }
+{
+    while is_answering(conn) {
+        let _next = conn.flush(0);
+    }
+}
+
+// Says the rest of what a hijacker said.
+fn say_tail<L: Link, B: Body, H: Hijack + Drop>(conn: &mut Conn<L, B, H>)
+    requires patient { (l : L) → (L.seen l).waits ≡ 0 }
+    requires hijacked { (shown conn.old).state ≡ State.Hijacked }
+    requires owes { (shown conn.old).owed ≢ [] }
+    ensures drives { Drives (shown conn.old) (shown conn.new) (L.seen (link_of conn.old)) (L.seen (link_of conn.new)) }
+    ensures calls { (shown conn.new).calls ≡ (shown conn.old).calls }
+    ensures said { IsSaid (shown conn.old) (shown conn.new) }
     ensures holds { (S : Stacks H) → Holds L.seen (record { says = H.says; ends = H.ends }) S conn.old → Holds L.seen (record { says = H.says; ends = H.ends }) S conn.new }
 {
     while conn.wants_write() {

@@ -11,7 +11,7 @@ use crate::Status;
 use crate::drive::{drive, is_over};
 use builder_core::StackRunner;
 use conn_core::{Conn, Ended, Why};
-use hijack_core::Never;
+use hijack_core::StockHijack;
 use rack_outside::{Link, PairLink, Sink, Source};
 use rack_types::{Limits, Local, Peer, Plain};
 use std::alloc::Global;
@@ -68,7 +68,7 @@ fn talk<L: Link + Drop>(
         hijack,
     };
     let peer = Peer::new(b"127.0.0.1").unwrap();
-    let mut conn: Conn<L, WareBody<Plain>, Never> = match Conn::open(
+    let mut conn: Conn<L, WareBody<Plain>, StockHijack> = match Conn::open(
         alloc,
         0,
         link,
@@ -121,6 +121,7 @@ fn status_of(ended: Why) -> Status
     match ended {
         Why::Closed => Status::Done,
         Why::PeerEnd => Status::Done,
+        Why::Hijacked => Status::Done,
         Why::ReadFailed => Status::SourceFault,
         Why::WriteFailed => Status::SinkFault,
         Why::NoMemory => Status::NoMemory,
@@ -129,6 +130,5 @@ fn status_of(ended: Why) -> Status
         Why::Stalled { .. } => unreachable!(),
         Why::Unread { .. } => unreachable!(),
         Why::Halted { .. } => unreachable!(),
-        Why::Hijacked => unreachable!(),
     }
 }

@@ -20,8 +20,9 @@ use std::alloc::Global;
 ///
 /// `once NAME` serves one connection from the source to the sink: it reads the stack file of that
 /// name, and then answers all requests that come, one behind the other, until the connection ends: by a
-/// reply that closes, behind a refusal, or at the input's end. `once --no-hijack NAME` tells the
-/// applications that none may take the connection over. `check NAME` reads the stack file of that name and
+/// reply that closes, behind a refusal, at the input's end, or where a hijacker that took the connection over
+/// ends it. `once --no-hijack NAME` tells the applications that none may take the connection over: an answer that
+/// does so is broken, and the reply is the 500 that names the rule. `check NAME` reads the stack file of that name and
 /// writes its written form to the sink.
 ///
 /// It waits for nobody but the objects that it was handed, and takes memory.

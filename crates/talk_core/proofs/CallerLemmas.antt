@@ -12,4 +12,5 @@ pub use Rattle.talk_core.proofs.LifeLemmas.{one_phase}
 pub use Rattle.talk_core.proofs.RunLemmas.{told_at, agrees_same, agrees_less, agrees_trans, told_before, told_here}
 pub use Rattle.talk_core.proofs.ShowsLemmas.{tells_appended, tells_marked, shows_given, shows_unread, shows_over, shows_sent, shows_unsent, shows_bytes, shows_not_yet, shows_end, shows_failed, shows_took, shows_waits, shows_broken, shows_no_memory}
 pub use Rattle.talk_core.proofs.CountLemmas.{counted_next, counted_more, lacks_some, taken_more}
-pub use Rattle.talk_core.proofs.TextLemmas.{begins_text, begins_less, plain_word}
+pub use Rattle.talk_core.proofs.TextLemmas.{begins_answer, begins_less}
+pub use Rattle.talk_core.proofs.AnswerLemmas.{one_answer, undrained, answer_whole, answer_closed, closed_on, answer_handed, answer_stopped, stopped_on, hijack_stops, hijack_untimed, stands_more}

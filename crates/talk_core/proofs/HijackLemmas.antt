@@ -32,7 +32,7 @@ tail_at_end V h rest goes = ap (λ (b : Bool). (V.says h rest).bytes ++ (if b th
 
 module _ {H : Type 0} (V : Voice H) (T : Teller H) where
   -- the word goes on: its text has this behind it
-  goes_further : (over then_over : Bool) (given sent : List ℕ) (k : ℕ) (r : Parts) (h : H) (rest lacks more longer : List ℕ)
+  pub goes_further : (over then_over : Bool) (given sent : List ℕ) (k : ℕ) (r : Parts) (h : H) (rest lacks more longer : List ℕ)
       → Stands V T over given sent k (hands_over r h) rest lacks → tail_of V h (rest ++ more) then_over ≡ tail_of V h rest over ++ longer
       → Stands V T then_over (given ++ more) sent k (hands_over r h) (rest ++ more) (lacks ++ longer)
   goes_further over then_over given sent k r h rest lacks more longer s tail = record {

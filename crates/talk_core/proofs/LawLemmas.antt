@@ -50,7 +50,7 @@ few_asked times_out = omega arith
 few_asked (hands_over r h) = omega arith
 
 -- behind a reply that does not keep nothing is asked
-none_behind : (fates : Fates) (given end : List ℕ) (asked whole more : List Parts) (r : Parts) (stop : Stop) → Talk fates given asked stop end
+pub none_behind : (fates : Fates) (given end : List ℕ) (asked whole more : List Parts) (r : Parts) (stop : Stop) → Talk fates given asked stop end
     → asked ≡ (whole ++ r ∷ []) ++ more → fates (length whole) r ≢ Keep → more ≡ []
 none_behind fates given end asked whole [] r stop t e never = refl
 none_behind fates given end asked whole (m ∷ more) r stop t e never =

@@ -1,3 +1,4 @@
+mod AnswerLemmas
 pub mod CallerLemmas
 mod ChunkedLemmas
 mod CompareLemmas

@@ -1,3 +1,4 @@
+pub mod Answer
 pub mod Asked
 pub mod Counts
 pub mod Ended

@@ -65,14 +65,6 @@ IsHijack {H} T k (refuses f) = ⊥
 IsHijack {H} T k times_out = ⊥
 IsHijack {H} T k (hands_over r h) = ⊤
 
--- the word is nothing, a reply or a refusal
-abbrev pub IsPlain : {H : Type 0} → Word H → Type 0
-IsPlain {H} silent = ⊤
-IsPlain {H} (replies r) = ⊤
-IsPlain {H} (refuses f) = ⊤
-IsPlain {H} times_out = ⊥
-IsPlain {H} (hands_over r h) = ⊥
-
 -- where a reply closes by draining, it is that of the last request, and no byte stands behind that request unless
 -- its reply is a hijack
 abbrev pub ClosesAt : Option ℕ → ℕ → Type 0 → List ℕ → Type 0

@@ -1,4 +1,4 @@
-use Rattle.std.proofs.Common.{ℕ, ◌≤◌, take, drop, arith, refl}
+use Rattle.std.proofs.Common.{arith, refl}
 use Rattle.rack_outside.proofs.CallerLemmas.{rose_within}
 use Rattle.puma_top.proofs.PrintLemmas.{took_more, front_is, front_less, same_told, within_more}
 use Rattle.puma_top.proofs.check.print.Goals as goal

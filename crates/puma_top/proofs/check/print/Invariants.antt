@@ -1,4 +1,4 @@
-use Rattle.std.proofs.Common.{ℕ, ◌-◌, ◌≤◌, length, take}
+use Rattle.std.proofs.Common.{◌-◌, ◌≤◌, length, take}
 use Rattle.rack_outside.specs.Link.{Tells}
 use Rattle.puma_top.proofs.check.print.Given as goal
 

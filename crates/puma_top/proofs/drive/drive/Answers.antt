@@ -1,13 +1,11 @@
-use Rattle.std.proofs.Common.{◌≡◌, ◌≢◌, ℕ, ◌+◌, ◌-◌, ◌^◌, ◌<◌, ◌≤◌, List, true, refl, sym, ap, subst, ◌∙◌, arith, Option, None, inl, inr}
-use Rattle.rack_types.specs.Env.{Pairs}
-use Rattle.rack_types.specs.declared.answer.Answer.{Answer}
-use Rattle.talk_core.specs.Teller.{Stacks, last_phase}
+use Rattle.std.proofs.Common.{◌≡◌, ◌<◌, [], None, refl, sym, ◌∙◌, arith, inr}
 use Rattle.conn_core.specs.declared.state.State.TheVariants as state
-use Rattle.conn_core.specs.Holds.{Holds}
-use Rattle.conn_core.specs.Shown.{Shown, shown, link_of}
+use Rattle.conn_core.specs.Shown.{shown, link_of}
 use Rattle.conn_core.proofs.CallerLemmas.{unended, few_calls}
 use Rattle.puma_top.specs.Once.{most_taken}
-use Rattle.puma_top.proofs.DriveLemmas.{driven_none, driven, feed_less, turn_less, say_less, room_for_turn, counts_on, answers_then}
+use Rattle.puma_top.proofs.DriveLemmas.{driven_none, driven, feed_less, turn_less, say_less, tail_less, hear_less, room_for_turn, counts_on, answers_then}
+use Rattle.puma_top.proofs.EndsLemmas.{feed_ends, turn_ends}
+use Rattle.puma_top.proofs.HeardLemmas.{none_owed}
 use Rattle.puma_top.proofs.drive.drive.Goals as goal
 
 pub loop-conn-init : goal.loop-conn-init
@@ -44,10 +42,11 @@ loop-conn-preserved-in-Reading g c =
     let o = shown c.loop-conn.conn in
     let n = shown c.feed-next.new.self in
     let f = c.feed-next.ensures.feeds in
-    let is : o.state ≡ state.Reading = sym c.state.ensures ∙ c.in-Reading.is in
+    let none : o.why ≡ None = unended c.loop-conn.conn state.Reading (sym c.state.ensures ∙ c.in-Reading.is) (λ e. cc) in
     record {
       drives = driven (shown c.args.conn.now) o n (g.L.Link.seen (link_of c.args.conn.now)) (g.L.Link.seen (link_of c.loop-conn.conn))
-          (g.L.Link.seen (link_of c.feed-next.new.self)) 1 0 i.drives (unended c.loop-conn.conn state.Reading is (λ e. cc)) f.moved f.ends;
+          (g.L.Link.seen (link_of c.feed-next.new.self)) 1 0 i.drives f.moved
+          (feed_ends c.feed-next.result o n (g.L.Link.seen (link_of c.loop-conn.conn)) (g.L.Link.seen (link_of c.feed-next.new.self)) none f);
       counts = i.counts ∙ sym f.calls;
       steady = i.steady;
       holds = λ S steady answers h. c.feed-next.ensures.holds S (i.holds S steady answers h);
@@ -73,10 +72,10 @@ loop-conn-preserved-in-Ready g c =
     let o = shown c.loop-conn.conn in
     let n = shown c.turn-next.new.self in
     let t = c.turn-next.ensures.turns in
-    let is : o.state ≡ state.Ready = sym c.state.ensures ∙ c.in-Ready.is in
     record {
       drives = driven a o n (g.L.Link.seen (link_of c.args.conn.now)) (g.L.Link.seen (link_of c.loop-conn.conn))
-          (g.L.Link.seen (link_of c.turn-next.new.self)) t.reads t.writes i.drives (unended c.loop-conn.conn state.Ready is (λ e. cc)) t.moved t.ends;
+          (g.L.Link.seen (link_of c.turn-next.new.self)) t.reads t.writes i.drives t.moved
+          (turn_ends n.why (g.L.Link.seen (link_of c.loop-conn.conn)) (g.L.Link.seen (link_of c.turn-next.new.self)) t.ends);
       counts = counts_on (g.R.Runner.runs c.loop-conn.runner) (g.R.Runner.runs c.turn-next.new.runner) o.calls n.calls i.counts c.turn-next.ensures.runs;
       steady = λ steady ps input. c.turn-next.ensures.steady steady ps input ∙ i.steady steady ps input;
       holds = λ S steady answers h. c.turn-next.ensures.holds S steady
@@ -84,24 +83,79 @@ loop-conn-preserved-in-Ready g c =
           i.drives.moved.lives answers (i.steady steady) ps input) (i.holds S steady answers h);
     }
 
-pub loop-conn-smaller : goal.loop-conn-smaller
-loop-conn-smaller g c =
+pub loop-conn-smaller-in-Answering : goal.loop-conn-smaller-in-Answering
+loop-conn-smaller-in-Answering g c =
     let o = shown c.loop-conn.conn in
     let is : o.state ≡ state.Answering = sym c.state.ensures ∙ c.in-Answering.is in
     let few : o.taken < most_taken = omega (arith, c.taken.ensures, c.if-taken-ge-MOST.false) in
-    say_less o (shown c.flush_all.new.conn) (g.L.Link.seen (link_of c.loop-conn.conn)) (g.L.Link.seen (link_of c.flush_all.new.conn)) is few
-    c.flush_all.ensures.drives c.flush_all.ensures.rests c.flush_all.ensures.said
+    say_less o (shown c.say_reply.new.conn) (g.L.Link.seen (link_of c.loop-conn.conn)) (g.L.Link.seen (link_of c.say_reply.new.conn)) is few
+    c.say_reply.ensures.drives c.say_reply.ensures.rests c.say_reply.ensures.said
+
+pub loop-conn-preserved-in-Answering : goal.loop-conn-preserved-in-Answering
+loop-conn-preserved-in-Answering g c =
+    let i = c.loop-conn.invariant in
+    let o = shown c.loop-conn.conn in
+    let d = c.say_reply.ensures.drives in
+    record {
+      drives = driven (shown c.args.conn.now) o (shown c.say_reply.new.conn) (g.L.Link.seen (link_of c.args.conn.now)) (g.L.Link.seen (link_of c.loop-conn.conn))
+          (g.L.Link.seen (link_of c.say_reply.new.conn)) d.reads d.writes i.drives d.moved d.ends;
+      counts = i.counts ∙ sym c.say_reply.ensures.calls;
+      steady = i.steady;
+      holds = λ S steady answers h. c.say_reply.ensures.holds S (i.holds S steady answers h);
+    }
+
+pub loop-conn-smaller-then-wants_write : goal.loop-conn-smaller-then-wants_write
+loop-conn-smaller-then-wants_write g c =
+    let o = shown c.loop-conn.conn in
+    let is : o.state ≡ state.Hijacked = sym c.state.ensures ∙ c.in-Hijacked.is in
+    let few : o.taken < most_taken = omega (arith, c.taken.ensures, c.if-taken-ge-MOST.false) in
+    tail_less o (shown c.say_tail.new.conn) (g.L.Link.seen (link_of c.loop-conn.conn)) (g.L.Link.seen (link_of c.say_tail.new.conn)) is
+    (c.wants_write.ensures.bytes.0 c.if-wants_write.true) few c.say_tail.ensures.drives c.say_tail.ensures.said
+
+pub loop-conn-preserved-then-wants_write : goal.loop-conn-preserved-then-wants_write
+loop-conn-preserved-then-wants_write g c =
+    let i = c.loop-conn.invariant in
+    let o = shown c.loop-conn.conn in
+    let d = c.say_tail.ensures.drives in
+    record {
+      drives = driven (shown c.args.conn.now) o (shown c.say_tail.new.conn) (g.L.Link.seen (link_of c.args.conn.now)) (g.L.Link.seen (link_of c.loop-conn.conn))
+          (g.L.Link.seen (link_of c.say_tail.new.conn)) d.reads d.writes i.drives d.moved d.ends;
+      counts = i.counts ∙ sym c.say_tail.ensures.calls;
+      steady = i.steady;
+      holds = λ S steady answers h. c.say_tail.ensures.holds S (i.holds S steady answers h);
+    }
+
+pub feed-next-requires-else-wants_write : goal.feed-next-requires-else-wants_write
+feed-next-requires-else-wants_write g c = record {
+  reading = inr (
+    sym c.state.ensures ∙ c.in-Hijacked.is,
+    none_owed (shown c.loop-conn.conn).owed (λ some. let says = c.wants_write.ensures.bytes.1 some in cc (says, c.if-wants_write.false)),
+  );
+}
+
+pub loop-conn-smaller : goal.loop-conn-smaller
+loop-conn-smaller g c =
+    let o = shown c.loop-conn.conn in
+    let is : o.state ≡ state.Hijacked = sym c.state.ensures ∙ c.in-Hijacked.is in
+    let none : o.owed ≡ [] = none_owed o.owed (λ some. let says = c.wants_write.ensures.bytes.1 some in cc (says, c.if-wants_write.false)) in
+    let few : o.taken < most_taken = omega (arith, c.taken.ensures, c.if-taken-ge-MOST.false) in
+    hear_less c.feed-next-else-wants_write.result o (shown c.feed-next-else-wants_write.new.self) (g.L.Link.seen (link_of c.loop-conn.conn))
+    (g.L.Link.seen (link_of c.feed-next-else-wants_write.new.self)) is none few (c.requires.patient (link_of c.loop-conn.conn))
+    (c.requires.patient (link_of c.feed-next-else-wants_write.new.self)) c.feed-next-else-wants_write.ensures.feeds
 
 pub loop-conn-preserved : goal.loop-conn-preserved
 loop-conn-preserved g c =
     let i = c.loop-conn.invariant in
     let o = shown c.loop-conn.conn in
-    let d = c.flush_all.ensures.drives in
-    let is : o.state ≡ state.Answering = sym c.state.ensures ∙ c.in-Answering.is in
+    let n = shown c.feed-next-else-wants_write.new.self in
+    let f = c.feed-next-else-wants_write.ensures.feeds in
+    let none : o.why ≡ None = unended c.loop-conn.conn state.Hijacked (sym c.state.ensures ∙ c.in-Hijacked.is) (λ e. cc) in
     record {
-      drives = driven (shown c.args.conn.now) o (shown c.flush_all.new.conn) (g.L.Link.seen (link_of c.args.conn.now)) (g.L.Link.seen (link_of c.loop-conn.conn))
-          (g.L.Link.seen (link_of c.flush_all.new.conn)) d.reads d.writes i.drives (unended c.loop-conn.conn state.Answering is (λ e. cc)) d.moved d.ends;
-      counts = i.counts ∙ sym c.flush_all.ensures.calls;
+      drives = driven (shown c.args.conn.now) o n (g.L.Link.seen (link_of c.args.conn.now)) (g.L.Link.seen (link_of c.loop-conn.conn))
+          (g.L.Link.seen (link_of c.feed-next-else-wants_write.new.self)) 1 0 i.drives f.moved
+          (feed_ends c.feed-next-else-wants_write.result o n (g.L.Link.seen (link_of c.loop-conn.conn))
+          (g.L.Link.seen (link_of c.feed-next-else-wants_write.new.self)) none f);
+      counts = i.counts ∙ sym f.calls;
       steady = i.steady;
-      holds = λ S steady answers h. c.flush_all.ensures.holds S (i.holds S steady answers h);
+      holds = λ S steady answers h. c.feed-next-else-wants_write.ensures.holds S (i.holds S steady answers h);
     }

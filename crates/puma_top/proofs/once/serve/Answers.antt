@@ -1,4 +1,4 @@
-use Rattle.std.proofs.Common.{rules, ◌≡◌, ℕ, List, Some}
+use Rattle.std.proofs.Common.{rules, ◌≡◌, Some}
 use Rattle.puma_top.proofs.ServeLemmas.{prefix_of}
 use Rattle.puma_top.proofs.once.serve.Goals as goal
 

@@ -1,7 +1,7 @@
 use Rattle.std.proofs.Common.{◌≡◌, ◌++◌, ℕ, List, ap, subst, ◌∙◌}
 use Rattle.builder_core.specs.Plan.{plan}
 use Rattle.stack_file.specs.Canon.{canonical}
-use Rattle.puma_top.specs.QuietSteps.{Prints, files_seen}
+use Rattle.puma_top.specs.QuietSteps.{Prints}
 use Rattle.puma_top.specs.Seen.{sink_seen}
 use Rattle.puma_top.proofs.QuietLemmas.{check_printed}
 use Rattle.puma_top.proofs.quiet.run_check.Goals as goal

@@ -1,28 +1,31 @@
-use Rattle.std.proofs.Common.{◌≡◌, ◌≢◌, ℕ, true, refl, sym, ap, subst, ◌∙◌, Option, None}
+use Rattle.std.proofs.Common.{◌≡◌, refl, subst, ◌∙◌, inl}
+use Rattle.conn_core.specs.Calls.{RestsBehind, Leaves}
+use Rattle.conn_core.specs.declared.state.State.{State}
 use Rattle.conn_core.specs.declared.state.State.TheVariants as state
 use Rattle.conn_core.specs.Shown.{shown, link_of}
 use Rattle.conn_core.proofs.CallerLemmas.{unended}
 use Rattle.puma_top.proofs.DriveLemmas.{driven_none, driven, flush_less, rests_start, rests_then}
-use Rattle.puma_top.proofs.drive.flush_all.Goals as goal
+use Rattle.puma_top.proofs.EndsLemmas.{turn_ends}
+use Rattle.puma_top.proofs.drive.say_reply.Goals as goal
 
 pub loop-conn-init : goal.loop-conn-init
 loop-conn-init g c =
     let o = shown c.args.conn.now in
     record {
-      drives = driven_none o (g.L.Link.seen (link_of c.args.conn.now)) (unended c.args.conn.now state.Answering c.requires.owes (λ e. cc));
+      drives = driven_none o (g.L.Link.seen (link_of c.args.conn.now)) (unended c.args.conn.now state.Answering c.requires.answers (λ e. cc));
       calls = refl;
-      rests = rests_start o.state o.replied c.requires.owes;
+      rests = rests_start o.state o.replied c.requires.answers;
       holds = λ S h. h;
     }
 
 pub flush-next-requires : goal.flush-next-requires
-flush-next-requires g c = record { owes = c.wants_write.ensures.state.0 c.loop-conn-test.true }
+flush-next-requires g c = record { owes = inl (c.is_answering.ensures.0 c.loop-conn-test.true) }
 
 pub loop-conn-smaller : goal.loop-conn-smaller
 loop-conn-smaller g c =
-    let saying = c.wants_write.ensures.state.0 c.loop-conn-test.true in
     flush_less c.flush-next.result (shown c.loop-conn.conn) (shown c.flush-next.new.self) (g.L.Link.seen (link_of c.loop-conn.conn)) (g.L.Link.seen (link_of c.flush-next.new.self))
-    saying (c.requires.patient (link_of c.loop-conn.conn)) (c.requires.patient (link_of c.flush-next.new.self)) c.flush-next.ensures.flushes
+    (c.is_answering.ensures.0 c.loop-conn-test.true) (c.requires.patient (link_of c.loop-conn.conn)) (c.requires.patient (link_of c.flush-next.new.self))
+    c.flush-next.ensures.flushes
 
 pub loop-conn-preserved : goal.loop-conn-preserved
 loop-conn-preserved g c =
@@ -30,13 +33,14 @@ loop-conn-preserved g c =
     let f = c.flush-next.ensures.flushes in
     let o = shown c.loop-conn.conn in
     let n = shown c.flush-next.new.self in
-    let saying = c.wants_write.ensures.state.0 c.loop-conn-test.true in
-    let none : o.why ≡ None = unended c.loop-conn.conn state.Answering saying (λ e. cc) in
+    let is : o.state ≡ state.Answering = c.is_answering.ensures.0 c.loop-conn-test.true in
+    let rests : RestsBehind n.state o.replied n.replied = subst (λ (x : State). Leaves x o n) is f.rests in
     record {
       drives = driven (shown c.args.conn.now) o n (g.L.Link.seen (link_of c.args.conn.now)) (g.L.Link.seen (link_of c.loop-conn.conn))
-          (g.L.Link.seen (link_of c.flush-next.new.self)) 0 f.writes i.drives none f.moved f.ends;
+          (g.L.Link.seen (link_of c.flush-next.new.self)) 0 f.writes i.drives f.moved
+          (turn_ends n.why (g.L.Link.seen (link_of c.loop-conn.conn)) (g.L.Link.seen (link_of c.flush-next.new.self)) f.ends);
       calls = f.calls ∙ i.calls;
-      rests = rests_then o.state n.state (shown c.args.conn.now).replied o.replied n.replied saying i.rests f.rests;
+      rests = rests_then o.state n.state (shown c.args.conn.now).replied o.replied n.replied is i.rests rests;
       holds = λ S h. c.flush-next.ensures.holds S (i.holds S h);
     }
 
@@ -47,6 +51,6 @@ returns g c =
       drives = i.drives;
       calls = i.calls;
       rests = i.rests;
-      said = λ e. let says = c.wants_write.ensures.state.1 e in cc (says, c.loop-conn-test.false);
+      said = λ e. let says = c.is_answering.ensures.1 e in cc (says, c.loop-conn-test.false);
       holds = i.holds;
     }
