@@ -25,6 +25,7 @@ def check_memory(checks):
     asked = b"".join(GET.replace(b"/", place, 1) for place in (b"/", b"/a", b"/b/c"))
     put = post([b"Content-Type: application/x-www-form-urlencoded", LENGTH + b"11"], b"_method=put").replace(b"/", b"/b", 1)
     write("raise.stack", b"run raise oops\n")
+    write("upper.stack", b"run take upper\n")
     body = b"a" * BODY_LIMIT
     chunks = b"".join(b"4000\r\n" + body[:0x4000] + b"\r\n" for _ in range(BODY_LIMIT // 0x4000)) + b"0\r\n\r\n"
     for name, words, stdin in [
@@ -45,6 +46,7 @@ def check_memory(checks):
          GET + post([b"X-%d: %s" % (i, b"a" * 400) for i in range(63)]) + GET),
         ("many pieces", ["once", "pieces.stack"], GET * 2),
         ("a broken answer", ["once", "raise.stack"], GET),
+        ("bytes through a hijacker", ["once", "upper.stack"], GET + b"a" * 100000),
     ]:
         check_less_and_less(checks, name, words, stdin)
     check_mute(checks)

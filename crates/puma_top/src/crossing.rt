@@ -3,6 +3,7 @@
 use circular_buffer::HeapCircularBuffer;
 use message_framing::{Feed, Intake, what_stands};
 use rack_env::refill;
+use rack_text::write_decimal;
 use rack_types::{
     Answer, Bytes, Env, Fault, Headers, Input, Kind, Limits, Local, NoMemory, Peer, Plain, Version,
 };
@@ -11,9 +12,49 @@ use std::alloc::Global;
 use std::convert::Infallible;
 use std::test::Fail;
 
-// Feeds an intake the text in pieces of this size, and tells of each request its method, whether it came in
-// chunks, its body, and how many bytes the piece gave it that it ended in; behind them whether a further one has
-// begun, or which refusal stands.
+// Tells of the request that stands its method, whether it came in chunks, its body, and how many bytes the piece
+// gave it that it ended in. Then it goes on to the next one.
+fn tell(intake: &mut Intake, taken: usize, told: &mut Vec<u8>) -> Result<(), NoMemory> {
+    let Some(request) = intake.request() else {
+        return Ok(());
+    };
+    told.extend_from_slice(request.method())?;
+    told.extend_from_slice(if request.chunked() {
+        b" chunked "
+    } else {
+        b" "
+    })?;
+    tell_body(intake.take_input(), taken, told)?;
+    intake.advance();
+    Ok(())
+}
+
+fn tell_body(input: Input, taken: usize, told: &mut Vec<u8>) -> Result<(), NoMemory> {
+    told.extend_from_slice(input.all())?;
+    told.push(b' ')?;
+    write_decimal(taken as u128, told)?;
+    told.push(b'\n')?;
+    Ok(())
+}
+
+// Feeds an intake a piece, and tells of the request that it makes whole, or of the refusal. How many bytes were
+// taken; none where it is refused.
+fn fed(intake: &mut Intake, piece: &[u8], told: &mut Vec<u8>) -> Result<Option<usize>, NoMemory> {
+    match intake.feed(piece)? {
+        Feed::More => Ok(Some(piece.len())),
+        Feed::Whole(n) => {
+            tell(intake, n, told)?;
+            Ok(Some(n))
+        }
+        Feed::Refused(_) => {
+            told.extend_from_slice(b"refused")?;
+            Ok(None)
+        }
+    }
+}
+
+// Feeds an intake the text in pieces of this size, and tells of each request; behind them whether a further one has
+// begun.
 fn taken(alloc: Global, text: &[u8], size: usize) -> Result<Vec<u8>, NoMemory> {
     let mut intake = Intake::new(alloc, Limits::stock())?;
     let mut told = Vec::new(alloc);
@@ -21,23 +62,10 @@ fn taken(alloc: Global, text: &[u8], size: usize) -> Result<Vec<u8>, NoMemory> {
     // Each answer here takes a byte at least, so there are no more pieces than bytes.
     for _ in 0..text.len() {
         let piece = &rest[..rest.len().min(size)];
-        let taken = match intake.feed(piece)? {
-            Feed::More => piece.len(),
-            Feed::Whole(n) => n,
-            Feed::Refused(fault) => {
-                told.extend_from_slice(format!(in alloc; "{fault:?}")?.as_bytes())?;
-                return Ok(told);
-            }
+        let Some(n) = fed(&mut intake, piece, &mut told)? else {
+            return Ok(told);
         };
-        if let Some(request) = intake.request() {
-            told.extend_from_slice(request.method())?;
-            let chunked = request.chunked();
-            told.extend_from_slice(if chunked { b" chunked " } else { b" " })?;
-            told.extend_from_slice(intake.take_input().all())?;
-            told.extend_from_slice(format!(in alloc; " {taken}\n")?.as_bytes())?;
-            intake.advance();
-        }
-        rest = rest.get(taken..).unwrap_or(b"");
+        rest = rest.get(n..).unwrap_or(b"");
     }
     told.extend_from_slice(if intake.begun() {
         b"begun"
@@ -90,21 +118,27 @@ fn tells_what_stands(rt: HostRuntime) -> Result<(), Fail> {
     Ok(())
 }
 
-// The pairs of the environment of the request that this text is, each as a line, and its input. The environment
-// is kept from the request before.
-fn lines_of(alloc: Global, env: &mut Env, text: &[u8], https: bool) -> Result<Vec<u8>, NoMemory> {
-    let mut lines = Vec::new(alloc);
+// An intake in which the request that this text is stands, if it is one.
+fn standing(alloc: Global, text: &[u8]) -> Result<Option<Intake>, NoMemory> {
     let mut intake = Intake::new(alloc, Limits::stock())?;
-    let Feed::Whole(_) = intake.feed(text)? else {
-        return Ok(lines);
-    };
+    match intake.feed(text)? {
+        Feed::Whole(_) => Ok(Some(intake)),
+        _ => Ok(None),
+    }
+}
+
+// Fills the environment anew from the request that stands.
+fn fill(env: &mut Env, intake: &mut Intake, https: bool) -> Result<(), NoMemory> {
+    if intake.request().is_none() {
+        return Ok(());
+    }
     let input = intake.take_input();
     let (Some(request), Some(peer), Some(name)) = (
         intake.request(),
         Peer::new(b"127.0.0.1"),
         Peer::new(b"localhost"),
     ) else {
-        return Ok(lines);
+        return Ok(());
     };
     let local = Local {
         name,
@@ -112,7 +146,12 @@ fn lines_of(alloc: Global, env: &mut Env, text: &[u8], https: bool) -> Result<Ve
         https,
         hijack: !https,
     };
-    refill(env, request, input, &peer, &local)?;
+    refill(env, request, input, &peer, &local)
+}
+
+// The pairs of an environment, each as a line, and its input.
+fn written(alloc: Global, env: &mut Env) -> Result<Vec<u8>, NoMemory> {
+    let mut lines = Vec::new(alloc);
     for i in 0..env.len() {
         lines.extend_from_slice(env.name(i))?;
         lines.extend_from_slice(b"=")?;
@@ -121,6 +160,15 @@ fn lines_of(alloc: Global, env: &mut Env, text: &[u8], https: bool) -> Result<Ve
     }
     lines.extend_from_slice(env.input().rest())?;
     Ok(lines)
+}
+
+// The same of the request that this text is. The environment is kept from the request before.
+fn lines_of(alloc: Global, env: &mut Env, text: &[u8], https: bool) -> Result<Vec<u8>, NoMemory> {
+    match standing(alloc, text)? {
+        Some(mut intake) => fill(env, &mut intake, https)?,
+        None => {}
+    }
+    written(alloc, env)
 }
 
 #[test]
@@ -202,6 +250,16 @@ fn taken_of_chunks(alloc: Global, chunks: &[u8]) -> Result<Option<usize>, NoMemo
     Ok(intake.request().map(|request| request.body().len()))
 }
 
+// Each chunk has its size line in front and its line end behind.
+fn are_framed(chunks: &[u8]) -> bool {
+    for chunk in chunks.chunks_exact(FRAMED) {
+        if !chunk.starts_with(b"10000\r\nx") || !chunk.ends_with(b"x\r\n") {
+            return false;
+        }
+    }
+    true
+}
+
 #[test]
 fn long_body_is_framed_and_read_again(rt: HostRuntime) -> Result<(), Fail> {
     let alloc = rt.alloc();
@@ -217,10 +275,7 @@ fn long_body_is_framed_and_read_again(rt: HostRuntime) -> Result<(), Fail> {
     assert_eq!(rt; sent, 67_118_132);
     assert_eq!(rt; first.get(..47), Some(HEAD));
     let chunks = first.get(47..1_048_767).unwrap_or(b"");
-    for chunk in chunks.chunks_exact(FRAMED) {
-        assert!(rt; chunk.starts_with(b"10000\r\nx"));
-        assert!(rt; chunk.ends_with(b"x\r\n"));
-    }
+    assert!(rt; are_framed(chunks));
     assert_eq!(rt; taken_of_chunks(alloc, chunks)?, Some(1_048_576));
     Ok(())
 }

@@ -44,7 +44,8 @@ const MAPPED: &str =
 
 const TWO: &str = "GET / HTTP/1.1\r\nHost: a\r\n\r\nGET /a/b HTTP/1.1\r\nHost: a\r\n\r\n";
 
-const ANSWERS: &str = "HTTP/1.1 200 OK\r\ncontent-type: text/plain\r\ntransfer-encoding: chunked\r\n\r\n5\r\nhello\r\n6\r\n there\r\n0\r\n\r\n\
+const ANSWERS: &str =
+    "HTTP/1.1 200 OK\r\ncontent-type: text/plain\r\ntransfer-encoding: chunked\r\n\r\n5\r\nhello\r\n6\r\n there\r\n0\r\n\r\n\
     HTTP/1.1 200 OK\r\ncontent-type: text/plain\r\ncontent-length: 5\r\n\r\nin /a";
 
 // Words, a stack, an input with the sizes of its pieces, and what is written.
@@ -99,8 +100,7 @@ fn answers_and_prints(rt: HostRuntime) -> Result<(), Fail> {
 }
 
 // A request, and 39 letters that come one by one.
-const TAKEN: &str =
-    "GET / HTTP/1.1\r\nHost: a\r\n\r\nabcdefghijklmnopqrstuvwxyzabcdefghijklm";
+const TAKEN: &str = "GET / HTTP/1.1\r\nHost: a\r\n\r\nabcdefghijklmnopqrstuvwxyzabcdefghijklm";
 
 const SIZES: &[u8] = &[
     27, 1, 1, 1, 1, 1, 1, 1, 1, 1, 1, 1, 1, 1, 1, 1, 1, 1, 1, 1, 1, 1, 1, 1, 1, 1, 1, 1, 1, 1, 1,
