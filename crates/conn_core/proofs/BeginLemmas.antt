@@ -74,7 +74,7 @@ module _ {B H : Type 0} (V : Voice H) (T : Teller H) (s : Seen) (over : Bool) (g
 
 -- the parts behind a run
 abbrev pub with_run : Kept → Intake → ℕ → Kept
-with_run c intake calls = record { intake = intake; held = c.held; ring = c.ring; calls = calls }
+with_run c intake calls = record { intake = intake; held = c.held; ring = c.ring; calls = calls; taken = c.taken }
 
 module _ {B H : Type 0} (V : Voice H) (T : Teller H) (s : Seen) (peer : List ℕ) (local : Local) (c : Kept) where
   -- the request that stands was run
@@ -99,6 +99,7 @@ module _ {B H : Type 0} (V : Voice H) (T : Teller H) (s : Seen) (peer : List ℕ
         sent = h.sent;
         over = h.over;
         shows = h.shows;
+        counts = h.counts;
         at = begun V T s h.over h.given h.sent (with_run c intake calls) c.calls r ask env.pairs (stack env.pairs env.input.bytes) last is
             (record {
               count = n;
@@ -109,19 +110,20 @@ module _ {B H : Type 0} (V : Voice H) (T : Teller H) (s : Seen) (peer : List ℕ
       }
 
   -- its environment wanted memory, and it was not run
-  pub unanswered : (d : Kept) → d.calls ≡ c.calls → StandsAt {B = B} V T s peer at.Asked c → StandsAt {B = B} V T s peer (at.Over why.NoMemory) d
-  unanswered d n h = record {
+  pub unanswered : (d : Kept) → d.calls ≡ c.calls → d.taken ≡ c.taken → StandsAt {B = B} V T s peer at.Asked c → StandsAt {B = B} V T s peer (at.Over why.NoMemory) d
+  unanswered d n t h = record {
     given = h.given;
     sent = h.sent;
     over = h.over;
     shows = h.shows;
+    counts = t ∙ h.counts;
     at = subst (λ (k : ℕ). EndsPlainly why.NoMemory V T (past s k h.given h.sent h.over)) (sym n)
         (silent_lacks V T s h.over h.given h.sent (h.at.0 ++ c.held) c.calls h.at.3.stands);
   }
 
   -- a refusal is named
   pub named : (f : Fault) (ring : List ℕ) → ring ≡ c.ring ++ fault_reply f → StandsAt {B = B} V T s peer (at.Refused f) c
-      → StandsAt {B = B} V T s peer at.Refusing (record { intake = c.intake; held = c.held; ring = ring; calls = c.calls })
+      → StandsAt {B = B} V T s peer at.Refusing (record { intake = c.intake; held = c.held; ring = ring; calls = c.calls; taken = c.taken })
   named f ring is h =
       let now = h.at.0 in
       let between : Between V T h.over h.given h.sent c now = h.at.3 in
@@ -132,6 +134,7 @@ module _ {B H : Type 0} (V : Voice H) (T : Teller H) (s : Seen) (peer : List ℕ
         sent = h.sent;
         over = h.over;
         shows = h.shows;
+        counts = h.counts;
         at = (
           f,
           now ++ c.held,
@@ -194,6 +197,7 @@ hands_hold {B} {H} V T s peer c a b ask ps answer last before ring left f e same
   sent = h.sent;
   over = h.over;
   shows = h.shows;
+  counts = h.counts;
   at = go a f e h.at;
 }
   where
@@ -201,7 +205,7 @@ hands_hold {B} {H} V T s peer c a b ask ps answer last before ring left f e same
         → HoldsAt b V T s h.over h.given h.sent (with_told c ring left)
     stays d is r l x =
         subst (λ (y : At B H). HoldsAt y V T s h.over h.given h.sent (with_told c ring left)) (sym is)
-        (subst (λ (k : Kept). HoldsAt d V T s h.over h.given h.sent k) (kept_same c (with_told c ring left) refl l (r ∙ same) refl) x)
+        (subst (λ (k : Kept). HoldsAt d V T s h.over h.given h.sent k) (kept_same c (with_told c ring left) refl l (r ∙ same) refl refl) x)
 
     go : (d : At B H) → BeginsAt ask ps answer last d → HandsOn V d c.held before b ring left → HoldsAt d V T s h.over h.given h.sent c
         → HoldsAt b V T s h.over h.given h.sent (with_told c ring left)

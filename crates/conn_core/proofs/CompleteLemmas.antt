@@ -38,7 +38,7 @@ has_request {B} {H} (at.Over ended) intake held ring calls h = tt
 
 -- the parts behind it
 abbrev then_kept : Kept → Intake → List ℕ → List ℕ → Kept
-then_kept c new left ring = record { intake = new; held = left; ring = ring; calls = c.calls }
+then_kept c new left ring = record { intake = new; held = left; ring = ring; calls = c.calls; taken = c.taken }
 
 module _ {B H : Type 0} (V : Voice H) (T : Teller H) (s : Seen) (over : Bool) (given sent : List ℕ) (c : Kept) (new : Intake) (left ring : List ℕ)
     (none : c.ring ≡ []) where
@@ -48,7 +48,7 @@ module _ {B H : Type 0} (V : Voice H) (T : Teller H) (s : Seen) (over : Bool) (g
   unchanged a b e i l r h =
       subst (λ (d : At B H). HoldsAt d V T s over given sent (then_kept c new left ring)) (sym e)
       (subst (λ (k : Kept). HoldsAt a V T s over given sent k)
-      (kept_same c (then_kept c new left ring) i l (r ∙ sym none) refl) h)
+      (kept_same c (then_kept c new left ring) i l (r ∙ sym none) refl refl) h)
 
   -- the same of what a hijacker that goes on has behind it
   spoken : (h : H) (b : At B H) → b ≡ at.Taken h → new ≡ c.intake → left ≡ c.held → ring ≡ [] → HoldsAt {B = B} (at.Speaking h) V T s over given sent c
@@ -65,8 +65,8 @@ module _ {B H : Type 0} (V : Voice H) (T : Teller H) (s : Seen) (over : Bool) (g
       let stands : Stands V T over given sent (suc h.0) silent c.held [] =
       stands_kept V T over given sent c.held h.1 h.0
       (subst (λ (x : List ℕ). Stands V T over given sent h.0 (replies h.1) c.held (x ++ [])) none h.3.stands) (sym h.2) in
-      subst (λ (x : List ℕ). HoldsAt b V T s over given sent (record { intake = new; held = left; ring = x; calls = c.calls })) (sym e.3)
-      (feeds_hold V T s over given sent e.0 new c.held left c.calls [] h.3.live b e.2 e.1
+      subst (λ (x : List ℕ). HoldsAt b V T s over given sent (record { intake = new; held = left; ring = x; calls = c.calls; taken = c.taken })) (sym e.3)
+      (feeds_hold V T s over given sent e.0 new c.held left c.calls c.taken [] h.3.live b e.2 e.1
       (subst (λ (n : ℕ). Stands V T over given sent n silent c.held []) (sym h.3.count) stands))
   completes_at (at.Writing false) b e is h =
       let closes : HoldsAt {B = B} (at.Over why.Closed) V T s over given sent (then_kept c new left ring) = (
@@ -78,7 +78,7 @@ module _ {B H : Type 0} (V : Voice H) (T : Teller H) (s : Seen) (over : Bool) (g
       ) in
       subst (λ (d : At B H). HoldsAt d V T s over given sent (then_kept c new left ring)) (sym e.0) closes
   completes_at (at.Handing who) b e is h =
-      hands_at V T s over given sent (record { intake = new; held = c.held; ring = c.ring; calls = c.calls }) who ring left b e h.0 h.1 h.2 h.3 h.4.count h.4.live
+      hands_at V T s over given sent (record { intake = new; held = c.held; ring = c.ring; calls = c.calls; taken = c.taken }) who ring left b e h.0 h.1 h.2 h.3 h.4.count h.4.live
       (subst (λ (x : List ℕ). Stands V T over given sent h.0 (replies h.1) c.held (x ++ [])) none h.4.stands)
   completes_at at.Refusing b e is h =
       let closes : HoldsAt {B = B} (at.Over why.Closed) V T s over given sent (then_kept c new left ring) = (
@@ -102,12 +102,13 @@ module _ {B H : Type 0} (V : Voice H) (T : Teller H) (s : Seen) (over : Bool) (g
 -- the link took all of the ring
 pub completes_hold : {B H : Type 0} (V : Voice H) (T : Teller H) (s : Seen) (peer : List ℕ) (c : Kept) (new : Intake) (left before ring : List ℕ) (a b : At B H)
     → c.ring ≡ [] → CompletesTo V a c.intake c.held b new left ring → IsFilledAt a before → StandsAt V T s peer a c
-    → StandsAt V T s peer b (record { intake = new; held = left; ring = ring; calls = c.calls })
+    → StandsAt V T s peer b (record { intake = new; held = left; ring = ring; calls = c.calls; taken = c.taken })
 completes_hold {B} {H} V T s peer c new left before ring a b none e is h = record {
   given = h.given;
   sent = h.sent;
   over = h.over;
   shows = h.shows;
+  counts = h.counts;
   at = completes_at V T s h.over h.given h.sent c new left ring none a b e (filled_says a before is) h.at;
 }
 

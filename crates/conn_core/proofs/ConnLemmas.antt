@@ -1,5 +1,5 @@
 -- A connection at its start, at its end, and while it lives.
-use Rattle.std.proofs.Common.{◌≡◌, ◌≢◌, ℕ, ◌+◌, ◌<◌, Bool, false, List, [], ◌∷◌, ◌++◌, length, refl, sym, ap, subst, ◌∙◌, arith, length-append, None}
+use Rattle.std.proofs.Common.{◌≡◌, ◌≢◌, ℕ, ◌+◌, ◌<◌, Bool, false, List, [], ◌∷◌, ◌++◌, length, refl, sym, ap, subst, ◌∙◌, arith, length-append, None, Option}
 use Rattle.rack_types.specs.declared.answer.Answer.{Answer}
 use Rattle.rack_types.specs.declared.body.Body.{Ghosts}
 use Rattle.rack_types.specs.Body.{Content}
@@ -7,7 +7,7 @@ use Rattle.rack_types.specs.Env.{Pairs}
 use Rattle.rack_types.specs.declared.peer.Local.{Local}
 use Rattle.rack_types.specs.Request.{Parts}
 use Rattle.rack_env.specs.Environment.{env_pairs}
-use Rattle.rack_outside.specs.Link.{Seen}
+use Rattle.rack_outside.specs.Link.{Seen, Tells, IsTouched}
 use Rattle.reply_framing.specs.Reply.{reply}
 use Rattle.message_framing.specs.declared.intake.Intake.{Intake}
 use Rattle.message_framing.specs.Intake.{Fed}
@@ -27,6 +27,7 @@ use Rattle.conn_core.specs.declared.state.State.TheVariants as state
 use Rattle.conn_core.specs.Holds.{Kept, kept, past, Replying, Handed, HoldsAt, StandsAt, HoldsBy}
 use Rattle.conn_core.specs.Inner.{TellsBy}
 use Rattle.conn_core.specs.Opened.{IsFresh}
+use Rattle.conn_core.specs.Owner.{EndsAnyTime}
 use Rattle.conn_core.specs.Place.{IsSaying, state_at}
 use Rattle.conn_core.specs.Plain.{EndsPlainly, IsPlainEnd}
 use Rattle.conn_core.specs.Rests.{RestsAt}
@@ -34,12 +35,13 @@ use Rattle.conn_core.specs.Shown.{owed_at}
 
 -- at its start
 at_start : {B H : Type 0} (V : Voice H) (T : Teller H) (s : Seen) (peer : List ℕ) (c : Kept) → Shows s peer [] [] false
-    → Fed c.intake [] → c.held ≡ [] → c.ring ≡ [] → c.calls ≡ 0 → StandsAt {B = B} V T s peer at.Reading c
-at_start {B} {H} V T s peer c shows fed held ring calls = record {
+    → Fed c.intake [] → c.held ≡ [] → c.ring ≡ [] → c.calls ≡ 0 → c.taken ≡ 0 → StandsAt {B = B} V T s peer at.Reading c
+at_start {B} {H} V T s peer c shows fed held ring calls taken = record {
   given = [];
   sent = [];
   over = false;
   shows = shows;
+  counts = omega (arith, taken);
   at = (
     [],
     wanting_nil,
@@ -58,7 +60,7 @@ pub fresh_stands : {B H : Type 0} {g : Ghosts B} (V : Voice H) (T : Teller H) (s
     → IsFresh peer local phase p → Shows s peer [] [] false → HoldsBy V T s p
 fresh_stands {B} {H} {g} V T s peer local phase p f shows =
     subst (λ (a : At B H). StandsAt V T s p.peer a (kept p)) (sym f.at_is)
-    (at_start V T s p.peer (kept p) (subst (λ (x : List ℕ). Shows s x [] [] false) (sym f.peer_is) shows) f.fed f.held f.ring f.calls)
+    (at_start V T s p.peer (kept p) (subst (λ (x : List ℕ). Shows s x [] [] false) (sym f.peer_is) shows) f.fed f.held f.ring f.calls f.taken)
 
 pub fresh_lives : {B H : Type 0} {g : Ghosts B} (peer : List ℕ) (local : Local) (phase : ℕ) (p : Inside B H g) → IsFresh peer local phase p
     → AreLives p.lives.items
@@ -267,3 +269,63 @@ turn_holds {B} {H} {g} V S old mid new s s' stack e peer local lives are same st
           (subst (λ (x : Local). HoldsBy V (tell S mid.lives.items x new.peer None) s' new) (sym local)
           (subst (λ (x : List ℕ). HoldsBy V (tell S mid.lives.items mid.local x None) s' new) (sym peer) then)),
     )
+
+-- it may be ended at any moment
+pub ends_any : {B H : Type 0} {g : Ghosts B} (V : Voice H) (T : Teller H) (s : Seen) (p : Inside B H g) (c : Kept) (w : Why) → state_at p.at ≢ state.Over
+    → EndsAnyTime w → c.calls ≡ p.calls → c.taken ≡ p.taken → HoldsBy V T s p → StandsAt {B = B} V T s p.peer (at.Over w) c
+ends_any {B} {H} {g} V T s p c w live may n t h = record {
+  given = h.given;
+  sent = h.sent;
+  over = h.over;
+  shows = h.shows;
+  counts = t ∙ h.counts;
+  at = subst (λ (k : ℕ). EndsPlainly w V T (past s k h.given h.sent h.over)) (sym n) (go w may (live_part p.at V T s h.over h.given h.sent (kept p) live h.at));
+}
+  where
+    go : (why : Why) → EndsAnyTime why → Part V T h.over h.given h.sent p.calls → EndsPlainly why V T (past s p.calls h.given h.sent h.over)
+    go why.Closed m part = absurd m
+    go why.PeerEnd m part = absurd m
+    go (why.Idle by) m part = absurd m
+    go (why.TimedOut since moment) m part = absurd m
+    go (why.Stalled since moment) m part = absurd m
+    go (why.Unread level) m part = absurd m
+    go why.ReadFailed m part = absurd m
+    go why.WriteFailed m part = absurd m
+    go (why.Halted level) m part = (m, (part.lacks, record { word = part.word; partly = part.partly }))
+    go why.NoMemory m part = (part.lacks, record { word = part.word; untimed = part.timed; partly = part.partly })
+    go why.Hijacked m part = absurd m
+
+-- what holds of a link holds of one that shows the same where it counts
+pub touched : {B H : Type 0} (V : Voice H) (T : Teller H) (old new : Seen) (peer : List ℕ) (a : At B H) (c : Kept) → IsTouched old new
+    → StandsAt V T old peer a c → StandsAt V T new peer a c
+touched {B} {H} V T old new peer a c one h = record {
+  given = h.given;
+  sent = h.sent;
+  over = h.over;
+  shows = record {
+    peer_is = subst (λ (o : Option (List ℕ)). Tells o peer) (sym one.peer) h.shows.peer_is;
+    given_is = subst (λ (o : Option (List ℕ)). Tells o h.given) (sym one.given) h.shows.given_is;
+    sent_is = subst (λ (o : Option (List ℕ)). Tells o h.sent) (sym one.sent) h.shows.sent_is;
+    over_is = subst (λ (o : Option Bool). Tells o h.over) (sym one.over) h.shows.over_is;
+  };
+  counts = h.counts;
+  at = go a h.at;
+}
+  where
+    ends : (w : Why) → EndsPlainly w V T (past old c.calls h.given h.sent h.over) → EndsPlainly w V T (past new c.calls h.given h.sent h.over)
+    ends w e =
+        subst (λ (n : ℕ). EndsPlainly w V T (record (past new c.calls h.given h.sent h.over) { failed_writes = n })) (sym one.failed_writes)
+        (subst (λ (n : ℕ). EndsPlainly w V T (record (past old c.calls h.given h.sent h.over) { failed_reads = n })) (sym one.failed_reads) e)
+
+    go : (b : At B H) → HoldsAt b V T old h.over h.given h.sent c → HoldsAt b V T new h.over h.given h.sent c
+    go at.Reading x = x
+    go at.Asked x = x
+    go (at.Refused f) x = x
+    go (at.Answering f) x = x
+    go (at.Writing keeps) x = x
+    go (at.Handing who) x = x
+    go at.Refusing x = x
+    go (at.Taken who) x = x
+    go (at.Speaking who) x = x
+    go at.Parting x = x
+    go (at.Over w) x = ends w x

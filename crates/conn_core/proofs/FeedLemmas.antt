@@ -16,8 +16,8 @@ use Rattle.conn_core.specs.Rests.{RestsAt}
 use Rattle.conn_core.specs.Steps.{FeedsHeld}
 
 -- the parts that an intake and the bytes held make where nothing is owed
-abbrev pub fed_kept : Intake → List ℕ → ℕ → Kept
-fed_kept intake held calls = record { intake = intake; held = held; ring = []; calls = calls }
+abbrev pub fed_kept : Intake → List ℕ → ℕ → ℕ → Kept
+fed_kept intake held calls taken = record { intake = intake; held = held; ring = []; calls = calls; taken = taken }
 
 -- between replies, with want of memory
 pub silent_lacks : {H : Type 0} (V : Voice H) (T : Teller H) (s : Seen) (over : Bool) (given sent rest : List ℕ) (calls : ℕ)
@@ -27,9 +27,9 @@ silent_lacks {H} V T s over given sent rest calls h =
     ([], record { word = silent; untimed = tt; partly = record { k = calls; rest = rest; calls_is = n; stands = h; closes = tt } })
 
 module _ {B H : Type 0} (V : Voice H) (T : Teller H) (s : Seen) (over : Bool) (given sent : List ℕ) (old new : Intake) (held left : List ℕ)
-    (calls : ℕ) (now : List ℕ) (live : over ≡ false) where
+    (calls taken : ℕ) (now : List ℕ) (live : over ≡ false) where
   pub feeds_hold : (a : At B H) → FeedsHeld old held new left a → Fed old now → Stands V T over given sent calls silent (now ++ held) []
-      → HoldsAt a V T s over given sent (fed_kept new left calls)
+      → HoldsAt a V T s over given sent (fed_kept new left calls taken)
   feeds_hold at.Reading f fed h =
       let rest : now ++ held ≡ (now ++ held) ++ left = sym (ap (λ x. (now ++ held) ++ x) f.1 ∙ append-nil (now ++ held)) in (
         now ++ held,

@@ -148,6 +148,7 @@ fills_hold {B} {H} V T s peer c a b x y r e is h = record {
   sent = h.sent;
   over = h.over;
   shows = h.shows;
+  counts = h.counts;
   at = fills_at V T s h.over h.given h.sent c x y r a b e is h.at;
 }
 

@@ -1,5 +1,5 @@
 -- What stands once a hijacker was told something.
-use Rattle.std.proofs.Common.{◌≡◌, ℕ, suc, ◌+◌, Bool, true, false, if◌then◌else◌, List, [], ◌++◌, refl, sym, ap, subst, ◌∙◌, append_assoc, arith, Some, inr}
+use Rattle.std.proofs.Common.{◌≡◌, ℕ, suc, ◌+◌, Bool, true, false, if◌then◌else◌, List, [], ◌++◌, refl, sym, ap, subst, ◌∙◌, append_assoc, arith, Some, inr, ◌-◌, ◌^◌, min, length}
 use Rattle.std.proofs.lemmas.List.{append-nil}
 use Rattle.hijack_core.specs.declared.hijack.Said.{Said}
 use Rattle.hijack_core.specs.Said.{GoesOnAs}
@@ -14,7 +14,7 @@ use Rattle.talk_core.specs.Ended.{NeedsDrain}
 use Rattle.talk_core.specs.Stands.{Stands, replies, hands_over}
 use Rattle.talk_core.specs.Tail.{Voice, tail_of, goes_on}
 use Rattle.talk_core.specs.Teller.{Teller}
-use Rattle.talk_core.proofs.CallerLemmas.{stands_handed, stands_heard, stands_over, tail_so_far, whole_handed, shows_given, shows_unread, shows_over}
+use Rattle.talk_core.proofs.CallerLemmas.{taken_more, stands_handed, stands_heard, stands_over, tail_so_far, whole_handed, shows_given, shows_unread, shows_over}
 use Rattle.conn_core.specs.declared.place.At.{At}
 use Rattle.conn_core.specs.declared.place.At.TheVariants as at
 use Rattle.conn_core.specs.Holds.{Kept, past, Handed, Hears, HoldsAt, StandsAt}
@@ -26,7 +26,11 @@ use Rattle.conn_core.proofs.PlaceLemmas.{kept_same}
 
 -- the parts behind what a hijacker was told
 abbrev pub with_told : Kept → List ℕ → List ℕ → Kept
-with_told c ring left = record { intake = c.intake; held = left; ring = ring; calls = c.calls }
+with_told c ring left = record { intake = c.intake; held = left; ring = ring; calls = c.calls; taken = c.taken }
+
+-- the same with another count of the bytes that were read
+abbrev pub with_count : Kept → ℕ → Kept
+with_count c taken = record { intake = c.intake; held = c.held; ring = c.ring; calls = c.calls; taken = taken }
 
 -- a hijacker that doesn't go on is at its end, whether the peer ended or not
 stops_on : (over go : Bool) → go ≡ false → (if over then false else go) ≡ false
@@ -193,9 +197,9 @@ end_rest {B} {H} V h ring left intake calls (at.Over w) e = tt
 
 module _ {B H : Type 0} (V : Voice H) (T : Teller H) (old new : Seen) (peer : List ℕ) (c : Kept) (now : H) (one : IsOneRead old new) (none : c.ring ≡ []) where
   -- bytes came, and were told to the hijacker that has the connection
-  pub heard : (b : At B H) (piece ring left : List ℕ) → new.given ≡ appended old.given piece → new.over ≡ old.over → Tells V now piece b ring left
-      → StandsAt {B = B} V T old peer (at.Taken now) c → StandsAt V T new peer b (with_told c ring left)
-  heard b piece ring left given_is over_is e h =
+  pub heard : (b : At B H) (piece ring left : List ℕ) (taken : ℕ) → taken ≡ min (c.taken + length piece) (2 ^ 64 - 1) → new.given ≡ appended old.given piece → new.over ≡ old.over → Tells V now piece b ring left
+      → StandsAt {B = B} V T old peer (at.Taken now) c → StandsAt V T new peer b (with_told (with_count c taken) ring left)
+  heard b piece ring left taken counted given_is over_is e h =
       let x : Hears V T h.over h.given h.sent c now = h.at in
       let q : Handed V T h.over h.given h.sent c = x.handed in
       let before : Stands V T false h.given h.sent q.k (hands_over q.request q.first) q.rest [] =
@@ -210,7 +214,8 @@ module _ {B H : Type 0} (V : Voice H) (T : Teller H) (old new : Seen) (peer : Li
         sent = h.sent;
         over = h.over;
         shows = shows_given old new peer h.given h.sent h.over piece one given_is over_is h.shows;
-        at = told_at V T new h.over (h.given ++ piece) h.sent c q.k q.request q.first (q.rest ++ piece) q.count now piece ring left b e x.live
+        counts = counted ∙ taken_more h.given piece c.taken h.counts;
+        at = told_at V T new h.over (h.given ++ piece) h.sent (with_count c taken) q.k q.request q.first (q.rest ++ piece) q.count now piece ring left b e x.live
             (goes_as V q.first now q.rest piece x.behind) (λ later behind. goes_then V q.first now later q.rest piece x.behind behind) behind;
       }
 
@@ -229,26 +234,28 @@ module _ {B H : Type 0} (V : Voice H) (T : Teller H) (old new : Seen) (peer : Li
         sent = h.sent;
         over = true;
         shows = shows_over old new peer h.given h.sent h.over one given_is over_is h.shows;
+        counts = h.counts;
         at = told_end V T new true h.given h.sent c q.k q.request q.first q.rest q.count now ring left b e refl
             (subst (λ (l : List ℕ). Stands V T true h.given h.sent q.k (hands_over q.request q.first) q.rest l) last
             (stands_over V T h.given h.sent q.k q.request q.first q.rest [] before x.goes));
       }
 
   -- nothing came yet
-  pub hears_nothing : (d : Kept) → d.intake ≡ c.intake → d.held ≡ c.held → d.ring ≡ c.ring → d.calls ≡ c.calls → new.given ≡ old.given
+  pub hears_nothing : (d : Kept) → d.intake ≡ c.intake → d.held ≡ c.held → d.ring ≡ c.ring → d.calls ≡ c.calls → d.taken ≡ c.taken → new.given ≡ old.given
       → new.over ≡ old.over → StandsAt {B = B} V T old peer (at.Taken now) c → StandsAt {B = B} V T new peer (at.Taken now) d
-  hears_nothing d i l r n given_is over_is h = record {
+  hears_nothing d i l r n t given_is over_is h = record {
     given = h.given;
     sent = h.sent;
     over = h.over;
     shows = shows_unread old new peer h.given h.sent h.over one given_is over_is h.shows;
-    at = subst (λ (x : Kept). HoldsAt {B = B} (at.Taken now) V T new h.over h.given h.sent x) (kept_same c d i l r n) h.at;
+    counts = t ∙ h.counts;
+    at = subst (λ (x : Kept). HoldsAt {B = B} (at.Taken now) V T new h.over h.given h.sent x) (kept_same c d i l r n t) h.at;
   }
 
   -- the read failed
-  pub hears_failure : (d : Kept) → d.calls ≡ c.calls → new.given ≡ old.given → new.over ≡ old.over → Rose old.failed_reads new.failed_reads
+  pub hears_failure : (d : Kept) → d.calls ≡ c.calls → d.taken ≡ c.taken → new.given ≡ old.given → new.over ≡ old.over → Rose old.failed_reads new.failed_reads
       → StandsAt {B = B} V T old peer (at.Taken now) c → StandsAt {B = B} V T new peer (at.Over why.ReadFailed) d
-  hears_failure d n given_is over_is rose h =
+  hears_failure d n t given_is over_is rose h =
       let x : Hears V T h.over h.given h.sent c now = h.at in
       let q : Handed V T h.over h.given h.sent c = x.handed in
       let one_more : c.calls ≡ q.k + 1 = omega (arith, q.count) in
@@ -257,6 +264,7 @@ module _ {B H : Type 0} (V : Voice H) (T : Teller H) (old new : Seen) (peer : Li
         sent = h.sent;
         over = h.over;
         shows = shows_unread old new peer h.given h.sent h.over one given_is over_is h.shows;
+        counts = t ∙ h.counts;
         at = subst (λ (m : ℕ). EndsPlainly why.ReadFailed V T (past new m h.given h.sent h.over)) (sym n) (
           rose_some old.failed_reads new.failed_reads rose,
           inr (record {
@@ -270,19 +278,20 @@ module _ {B H : Type 0} (V : Voice H) (T : Teller H) (old new : Seen) (peer : Li
 
 -- the same of a place at which one has the connection
 module _ {B H : Type 0} (V : Voice H) (T : Teller H) (old new : Seen) (peer : List ℕ) (c : Kept) (one : IsOneRead old new) (none : c.ring ≡ []) where
-  pub heard_at : (a b : At B H) (piece before ring left : List ℕ) → IsHearing a → new.given ≡ appended old.given piece → new.over ≡ old.over
-      → HandsOn V a piece before b ring left → StandsAt V T old peer a c → StandsAt V T new peer b (with_told c ring left)
-  heard_at at.Reading b piece before ring left is given_is over_is e h = absurd is
-  heard_at at.Asked b piece before ring left is given_is over_is e h = absurd is
-  heard_at (at.Refused f) b piece before ring left is given_is over_is e h = absurd is
-  heard_at (at.Answering f) b piece before ring left is given_is over_is e h = absurd is
-  heard_at (at.Writing keeps) b piece before ring left is given_is over_is e h = absurd is
-  heard_at (at.Handing now) b piece before ring left is given_is over_is e h = absurd is
-  heard_at at.Refusing b piece before ring left is given_is over_is e h = absurd is
-  heard_at (at.Taken now) b piece before ring left is given_is over_is e h = heard V T old new peer c now one none b piece ring left given_is over_is e h
-  heard_at (at.Speaking now) b piece before ring left is given_is over_is e h = absurd is
-  heard_at at.Parting b piece before ring left is given_is over_is e h = absurd is
-  heard_at (at.Over w) b piece before ring left is given_is over_is e h = absurd is
+  pub heard_at : (a b : At B H) (piece before ring left : List ℕ) (taken : ℕ) → taken ≡ min (c.taken + length piece) (2 ^ 64 - 1)
+      → IsHearing a → new.given ≡ appended old.given piece → new.over ≡ old.over
+      → HandsOn V a piece before b ring left → StandsAt V T old peer a c → StandsAt V T new peer b (with_told (with_count c taken) ring left)
+  heard_at at.Reading b piece before ring left taken counted is given_is over_is e h = absurd is
+  heard_at at.Asked b piece before ring left taken counted is given_is over_is e h = absurd is
+  heard_at (at.Refused f) b piece before ring left taken counted is given_is over_is e h = absurd is
+  heard_at (at.Answering f) b piece before ring left taken counted is given_is over_is e h = absurd is
+  heard_at (at.Writing keeps) b piece before ring left taken counted is given_is over_is e h = absurd is
+  heard_at (at.Handing now) b piece before ring left taken counted is given_is over_is e h = absurd is
+  heard_at at.Refusing b piece before ring left taken counted is given_is over_is e h = absurd is
+  heard_at (at.Taken now) b piece before ring left taken counted is given_is over_is e h = heard V T old new peer c now one none b piece ring left taken counted given_is over_is e h
+  heard_at (at.Speaking now) b piece before ring left taken counted is given_is over_is e h = absurd is
+  heard_at at.Parting b piece before ring left taken counted is given_is over_is e h = absurd is
+  heard_at (at.Over w) b piece before ring left taken counted is given_is over_is e h = absurd is
 
   pub end_at : (a b : At B H) (ring left : List ℕ) → IsHearing a → new.given ≡ old.given → new.over ≡ marked old.over
       → EndsOn V a b ring → StandsAt V T old peer a c → StandsAt V T new peer b (with_told c ring left)
@@ -298,33 +307,33 @@ module _ {B H : Type 0} (V : Voice H) (T : Teller H) (old new : Seen) (peer : Li
   end_at at.Parting b ring left is given_is over_is e h = absurd is
   end_at (at.Over w) b ring left is given_is over_is e h = absurd is
 
-  pub nothing_at : (a : At B H) (d : Kept) → IsHearing a → d.intake ≡ c.intake → d.held ≡ c.held → d.ring ≡ c.ring → d.calls ≡ c.calls
+  pub nothing_at : (a : At B H) (d : Kept) → IsHearing a → d.intake ≡ c.intake → d.held ≡ c.held → d.ring ≡ c.ring → d.calls ≡ c.calls → d.taken ≡ c.taken
       → new.given ≡ old.given → new.over ≡ old.over → StandsAt V T old peer a c → StandsAt V T new peer a d
-  nothing_at at.Reading d is i l r n given_is over_is h = absurd is
-  nothing_at at.Asked d is i l r n given_is over_is h = absurd is
-  nothing_at (at.Refused f) d is i l r n given_is over_is h = absurd is
-  nothing_at (at.Answering f) d is i l r n given_is over_is h = absurd is
-  nothing_at (at.Writing keeps) d is i l r n given_is over_is h = absurd is
-  nothing_at (at.Handing now) d is i l r n given_is over_is h = absurd is
-  nothing_at at.Refusing d is i l r n given_is over_is h = absurd is
-  nothing_at (at.Taken now) d is i l r n given_is over_is h = hears_nothing {B = B} V T old new peer c now one none d i l r n given_is over_is h
-  nothing_at (at.Speaking now) d is i l r n given_is over_is h = absurd is
-  nothing_at at.Parting d is i l r n given_is over_is h = absurd is
-  nothing_at (at.Over w) d is i l r n given_is over_is h = absurd is
+  nothing_at at.Reading d is i l r n t given_is over_is h = absurd is
+  nothing_at at.Asked d is i l r n t given_is over_is h = absurd is
+  nothing_at (at.Refused f) d is i l r n t given_is over_is h = absurd is
+  nothing_at (at.Answering f) d is i l r n t given_is over_is h = absurd is
+  nothing_at (at.Writing keeps) d is i l r n t given_is over_is h = absurd is
+  nothing_at (at.Handing now) d is i l r n t given_is over_is h = absurd is
+  nothing_at at.Refusing d is i l r n t given_is over_is h = absurd is
+  nothing_at (at.Taken now) d is i l r n t given_is over_is h = hears_nothing {B = B} V T old new peer c now one none d i l r n t given_is over_is h
+  nothing_at (at.Speaking now) d is i l r n t given_is over_is h = absurd is
+  nothing_at at.Parting d is i l r n t given_is over_is h = absurd is
+  nothing_at (at.Over w) d is i l r n t given_is over_is h = absurd is
 
-  pub failure_at : (a : At B H) (d : Kept) → IsHearing a → d.calls ≡ c.calls → new.given ≡ old.given → new.over ≡ old.over
+  pub failure_at : (a : At B H) (d : Kept) → IsHearing a → d.calls ≡ c.calls → d.taken ≡ c.taken → new.given ≡ old.given → new.over ≡ old.over
       → Rose old.failed_reads new.failed_reads → StandsAt V T old peer a c → StandsAt {B = B} V T new peer (at.Over why.ReadFailed) d
-  failure_at at.Reading d is n given_is over_is rose h = absurd is
-  failure_at at.Asked d is n given_is over_is rose h = absurd is
-  failure_at (at.Refused f) d is n given_is over_is rose h = absurd is
-  failure_at (at.Answering f) d is n given_is over_is rose h = absurd is
-  failure_at (at.Writing keeps) d is n given_is over_is rose h = absurd is
-  failure_at (at.Handing now) d is n given_is over_is rose h = absurd is
-  failure_at at.Refusing d is n given_is over_is rose h = absurd is
-  failure_at (at.Taken now) d is n given_is over_is rose h = hears_failure {B = B} V T old new peer c now one none d n given_is over_is rose h
-  failure_at (at.Speaking now) d is n given_is over_is rose h = absurd is
-  failure_at at.Parting d is n given_is over_is rose h = absurd is
-  failure_at (at.Over w) d is n given_is over_is rose h = absurd is
+  failure_at at.Reading d is n t given_is over_is rose h = absurd is
+  failure_at at.Asked d is n t given_is over_is rose h = absurd is
+  failure_at (at.Refused f) d is n t given_is over_is rose h = absurd is
+  failure_at (at.Answering f) d is n t given_is over_is rose h = absurd is
+  failure_at (at.Writing keeps) d is n t given_is over_is rose h = absurd is
+  failure_at (at.Handing now) d is n t given_is over_is rose h = absurd is
+  failure_at at.Refusing d is n t given_is over_is rose h = absurd is
+  failure_at (at.Taken now) d is n t given_is over_is rose h = hears_failure {B = B} V T old new peer c now one none d n t given_is over_is rose h
+  failure_at (at.Speaking now) d is n t given_is over_is rose h = absurd is
+  failure_at at.Parting d is n t given_is over_is rose h = absurd is
+  failure_at (at.Over w) d is n t given_is over_is rose h = absurd is
 
 -- where a hijacker has the connection nothing is owed and nothing held
 pub hearing_rests : {B H : Type 0} (a : At B H) (intake : Intake) (held ring : List ℕ) (calls : ℕ) → IsHearing a → RestsAt a intake held ring calls

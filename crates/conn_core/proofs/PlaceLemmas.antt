@@ -16,9 +16,10 @@ pub stands_place : {B H : Type 0} (a b : At B H) (V : Voice H) (T : Teller H) (s
 stands_place {B} {H} a b V T s peer c e h = subst (λ (d : At B H). StandsAt V T s peer d c) e h
 
 -- the same parts
-pub kept_same : (c d : Kept) → d.intake ≡ c.intake → d.held ≡ c.held → d.ring ≡ c.ring → d.calls ≡ c.calls → c ≡ d
-kept_same c d i e r n =
-    ap (λ (x : Intake). record { intake = x; held = c.held; ring = c.ring; calls = c.calls }) (sym i)
-    ∙ ap (λ (x : List ℕ). record { intake = d.intake; held = x; ring = c.ring; calls = c.calls }) (sym e)
-    ∙ ap (λ (x : List ℕ). record { intake = d.intake; held = d.held; ring = x; calls = c.calls }) (sym r)
-    ∙ ap (λ (x : ℕ). record { intake = d.intake; held = d.held; ring = d.ring; calls = x }) (sym n)
+pub kept_same : (c d : Kept) → d.intake ≡ c.intake → d.held ≡ c.held → d.ring ≡ c.ring → d.calls ≡ c.calls → d.taken ≡ c.taken → c ≡ d
+kept_same c d i e r n t =
+    ap (λ (x : Intake). record { intake = x; held = c.held; ring = c.ring; calls = c.calls; taken = c.taken }) (sym i)
+    ∙ ap (λ (x : List ℕ). record { intake = d.intake; held = x; ring = c.ring; calls = c.calls; taken = c.taken }) (sym e)
+    ∙ ap (λ (x : List ℕ). record { intake = d.intake; held = d.held; ring = x; calls = c.calls; taken = c.taken }) (sym r)
+    ∙ ap (λ (x : ℕ). record { intake = d.intake; held = d.held; ring = d.ring; calls = x; taken = c.taken }) (sym n)
+    ∙ ap (λ (x : ℕ). record { intake = d.intake; held = d.held; ring = d.ring; calls = d.calls; taken = x }) (sym t)

@@ -119,6 +119,7 @@ retold {B} {H} V T U s peer a c same h = record {
   sent = h.sent;
   over = h.over;
   shows = h.shows;
+  counts = h.counts;
   at = retold_at V T U s h.over h.given h.sent c same a h.at;
 }
 

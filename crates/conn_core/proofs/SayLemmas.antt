@@ -18,7 +18,7 @@ use Rattle.conn_core.specs.Plain.{EndsPlainly}
 
 -- the parts with other bytes in the ring
 abbrev pub with_ring : Kept → List ℕ → Kept
-with_ring c ring = record { intake = c.intake; held = c.held; ring = ring; calls = c.calls }
+with_ring c ring = record { intake = c.intake; held = c.held; ring = ring; calls = c.calls; taken = c.taken }
 
 -- a place where something is being said: what stands there, and how to come back to it
 pub record Saying {B H : Type 0} (a : At B H) (V : Voice H) (T : Teller H) (over : Bool) (given sent : List ℕ) (c : Kept) : Type 0 where
@@ -141,6 +141,7 @@ module _ {B H : Type 0} (a : At B H) (V : Voice H) (T : Teller H) (old new : See
         sent = h.sent ++ piece;
         over = h.over;
         shows = shows_sent old new peer h.given h.sent h.over piece one sent_is h.shows;
+        counts = h.counts;
         at = q.back new (h.sent ++ piece) after
             (stands_sent V T h.over h.given h.sent piece (after ++ q.tail) q.rest q.k q.word
             (subst (λ (x : List ℕ). Stands V T h.over h.given h.sent q.k q.word q.rest x) e q.stands));
@@ -155,19 +156,21 @@ module _ {B H : Type 0} (a : At B H) (V : Voice H) (T : Teller H) (old new : See
         sent = h.sent;
         over = h.over;
         shows = shows_unsent old new peer h.given h.sent h.over one sent_is h.shows;
+        counts = h.counts;
         at = q.back new h.sent c.ring q.stands;
       }
 
   -- the write failed
-  pub write_failed : (d : Kept) → d.calls ≡ c.calls → 0 < length c.ring → new.sent ≡ old.sent → Rose old.failed_writes new.failed_writes
+  pub write_failed : (d : Kept) → d.calls ≡ c.calls → d.taken ≡ c.taken → 0 < length c.ring → new.sent ≡ old.sent → Rose old.failed_writes new.failed_writes
       → StandsAt V T old peer a c → StandsAt {B = B} V T new peer (at.Over why.WriteFailed) d
-  write_failed d n some sent_is rose h =
+  write_failed d n t some sent_is rose h =
       let q : Saying a V T h.over h.given h.sent c = saying a V T old h.over h.given h.sent c is h.at in
       record {
         given = h.given;
         sent = h.sent;
         over = h.over;
         shows = shows_unsent old new peer h.given h.sent h.over one sent_is h.shows;
+        counts = t ∙ h.counts;
         at = subst (λ (k : ℕ). EndsPlainly why.WriteFailed V T (past new k h.given h.sent h.over)) (sym n) (
           rose_some old.failed_writes new.failed_writes rose,
           (
@@ -179,15 +182,16 @@ module _ {B H : Type 0} (a : At B H) (V : Voice H) (T : Teller H) (old new : See
       }
 
   -- the write wanted memory
-  pub write_lacks : (d : Kept) → d.calls ≡ c.calls → new.sent ≡ old.sent
+  pub write_lacks : (d : Kept) → d.calls ≡ c.calls → d.taken ≡ c.taken → new.sent ≡ old.sent
       → StandsAt V T old peer a c → StandsAt {B = B} V T new peer (at.Over why.NoMemory) d
-  write_lacks d n sent_is h =
+  write_lacks d n t sent_is h =
       let q : Saying a V T h.over h.given h.sent c = saying a V T old h.over h.given h.sent c is h.at in
       record {
         given = h.given;
         sent = h.sent;
         over = h.over;
         shows = shows_unsent old new peer h.given h.sent h.over one sent_is h.shows;
+        counts = t ∙ h.counts;
         at = subst (λ (k : ℕ). EndsPlainly why.NoMemory V T (past new k h.given h.sent h.over)) (sym n)
             (c.ring ++ q.tail, record { word = q.word; untimed = q.untimed; partly = record { k = q.k; rest = q.rest; calls_is = q.calls_is; stands = q.stands; closes = tt } });
       }

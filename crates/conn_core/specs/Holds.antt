@@ -1,5 +1,5 @@
 -- What a connection stands for between its steps, by where it is.
-use Rattle.std.specs.Prelude.{◌≡◌, ℕ, suc, Bool, true, false, List, [], ◌++◌, None, Some}
+use Rattle.std.specs.Prelude.{◌≡◌, ℕ, suc, ◌-◌, ◌^◌, min, Bool, true, false, List, [], ◌++◌, length, None, Some}
 use Rattle.rack_types.specs.declared.fault.Fault.{Fault}
 use Rattle.rack_types.specs.Request.{Parts}
 use Rattle.rack_types.specs.declared.body.Body.{Ghosts}
@@ -21,12 +21,17 @@ use Rattle.conn_core.specs.declared.place.At.TheVariants as at
 use Rattle.conn_core.specs.Plain.{EndsPlainly}
 use Rattle.conn_core.specs.Rests.{after_of}
 
+-- how many bytes were read, up to 2^64 - 1
+abbrev pub Counts : ℕ → List ℕ → Type 0
+Counts taken given = taken ≡ min (length given) (2 ^ 64 - 1)
+
 -- the parts that the meaning of a place rests on
 pub record Kept : Type 0 where
   pub intake : Intake
   pub held : List ℕ
   pub ring : List ℕ
   pub calls : ℕ
+  pub taken : ℕ
 
 -- what a connection has behind it
 abbrev pub past : Seen → ℕ → List ℕ → List ℕ → Bool → Past
@@ -104,10 +109,11 @@ pub record StandsAt {B H : Type 0} (V : Voice H) (T : Teller H) (s : Seen) (peer
   pub sent : List ℕ
   pub over : Bool
   pub shows : Shows s peer given sent over
+  pub counts : Counts c.taken given
   pub at : HoldsAt a V T s over given sent c
 
 abbrev pub kept : {B H : Type 0} {g : Ghosts B} → Inside B H g → Kept
-kept {B} {H} {g} p = record { intake = p.intake; held = p.held; ring = p.ring.items; calls = p.calls }
+kept {B} {H} {g} p = record { intake = p.intake; held = p.held; ring = p.ring.items; calls = p.calls; taken = p.taken }
 
 abbrev pub HoldsBy : {B H : Type 0} {g : Ghosts B} → Voice H → Teller H → Seen → Inside B H g → Type 0
 HoldsBy {B} {H} {g} V T s p = StandsAt V T s p.peer p.at (kept p)

@@ -10,3 +10,4 @@ pub mod Inner
 pub mod Answers
 pub mod Opened
 pub mod Runs
+pub mod Owner

@@ -38,9 +38,9 @@ const LIVES: usize = 64;
 /// is all of it at an orderly end: that is `Holds`, which its owner carries from `open` to `finish`.
 #[derive(Drop)]
 pub struct Conn<L, B: Body, H> {
-    number: u32,
-    link: L,
-    inside: Box<Inside<B, H>>,
+    pub(crate) number: u32,
+    pub(crate) link: L,
+    pub(crate) inside: Box<Inside<B, H>>,
 }
 
 impl<L: Link, B: Body, H: Hijack + Drop> Conn<L, B, H> {

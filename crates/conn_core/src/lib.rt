@@ -9,6 +9,7 @@ mod held;
 mod hijack;
 mod inside;
 mod left;
+mod owner;
 mod place;
 mod read;
 mod say;

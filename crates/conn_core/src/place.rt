@@ -98,3 +98,13 @@ pub(crate) fn is_answering<B: Body, H>(at: &At<B, H>) -> bool
         State::Reading | State::Ready | State::Hijacked | State::Over => false,
     }
 }
+
+// Whether the connection ended.
+pub(crate) fn is_over<B: Body, H>(at: &At<B, H>) -> bool
+    ensures { IsTrue result ↔ (state_at at.now ≡ State.Over) }
+{
+    match state_at(at) {
+        State::Over => true,
+        State::Reading | State::Ready | State::Answering | State::Hijacked => false,
+    }
+}

@@ -75,7 +75,7 @@ returns-in-Err-clause-any g c = λ T s h.
       teller = T;
       before = agrees_same T p.calls;
       stands = stands_place (at.Over why.NoMemory) c.put-in-Err.new.at V T s p.peer _ (sym c.put-in-Err.ensures)
-          (unanswered V T s p.peer p.local (kept p) _ refl (stands_place p.at at.Asked V T s p.peer (kept p) c.requires.at h));
+          (unanswered V T s p.peer p.local (kept p) _ refl refl (stands_place p.at at.Asked V T s p.peer (kept p) c.requires.at h));
     }
 
 pub returns-in-Ok-clause-runs : goal.returns-in-Ok-clause-runs

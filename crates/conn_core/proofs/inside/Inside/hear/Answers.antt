@@ -30,7 +30,8 @@ returns-in-Bytes-clause-holds g c = λ T h.
     c.replace-at.ensures.value c.hand_on-at.ensures.hands in
     stands_place c.hand_on-at.result c.put.new.at V T s' p.peer _ (sym c.put.ensures)
     (heard_at V T s s' p.peer (kept p) c.in-Bytes.ensures.keeps none.1 p.at c.hand_on-at.result c.read-read.new.self p.ring.items c.hand_on-at.new.ring.items
-    c.hand_on-at.new.held c.requires c.in-Bytes.ensures.reads.2 c.in-Bytes.ensures.reads.3 hands h)
+    c.hand_on-at.new.held c.saturating_add-self.result
+    (c.saturating_add-self.ensures ∙ ap (λ (n : ℕ). min (p.taken + n) (2 ^ 64 - 1)) c.in-Bytes.ensures.reads.0) c.requires c.in-Bytes.ensures.reads.2 c.in-Bytes.ensures.reads.3 hands h)
 
 pub returns-in-NotYet-clause-holds : goal.returns-in-NotYet-clause-holds
 returns-in-NotYet-clause-holds g c = λ T h.
@@ -39,7 +40,7 @@ returns-in-NotYet-clause-holds g c = λ T h.
     let s' = g.L.Link.seen c.read-read.new.link in
     let p = c.args.self.now in
     let none = hearing_rests p.at p.intake p.held p.ring.items p.calls c.requires p.rests in
-    nothing_at V T s s' p.peer (kept p) c.in-NotYet.ensures.keeps none.1 p.at _ c.requires refl (c.in-NotYet.ensures.reads.0 ∙ sym none.0) refl refl
+    nothing_at V T s s' p.peer (kept p) c.in-NotYet.ensures.keeps none.1 p.at _ c.requires refl (c.in-NotYet.ensures.reads.0 ∙ sym none.0) refl refl refl
     c.in-NotYet.ensures.reads.1 c.in-NotYet.ensures.reads.2 h
 
 pub returns-in-End-clause-holds : goal.returns-in-End-clause-holds
@@ -63,7 +64,7 @@ returns-in-Failed-clause-holds g c = λ T h.
     let p = c.args.self.now in
     let none = hearing_rests p.at p.intake p.held p.ring.items p.calls c.requires p.rests in
     stands_place (at.Over why.ReadFailed) c.put-in-Failed.new.at V T s' p.peer _ (sym c.put-in-Failed.ensures)
-    (failure_at V T s s' p.peer (kept p) c.in-Failed.ensures.keeps none.1 p.at _ c.requires refl c.in-Failed.ensures.reads.1 c.in-Failed.ensures.reads.2
+    (failure_at V T s s' p.peer (kept p) c.in-Failed.ensures.keeps none.1 p.at _ c.requires refl refl c.in-Failed.ensures.reads.1 c.in-Failed.ensures.reads.2
     c.in-Failed.ensures.reads.3 h)
 
 pub returns-in-Bytes-clause-reads : goal.returns-in-Bytes-clause-reads

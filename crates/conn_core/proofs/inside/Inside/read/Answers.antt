@@ -25,7 +25,8 @@ returns-in-Bytes-clause-holds g c = λ T h.
     let s' = g.L.Link.seen c.read-read.new.link in
     stands_place c.feed_held-at.result c.put.new.at V T s' c.args.self.now.peer _ (sym c.put.ensures)
     (took_in V T s s' c.args.self.now.peer (kept c.args.self.now) c.in-Bytes.ensures.keeps c.feed_held-at.result c.read-read.new.self
-    c.feed_held-at.new.held c.feed_held-at.new.intake c.in-Bytes.ensures.reads.2 c.in-Bytes.ensures.reads.3 c.feed_held-at.ensures
+    c.feed_held-at.new.held c.feed_held-at.new.intake c.saturating_add-self.result
+    (c.saturating_add-self.ensures ∙ ap (λ (n : ℕ). min (c.args.self.now.taken + n) (2 ^ 64 - 1)) c.in-Bytes.ensures.reads.0) c.in-Bytes.ensures.reads.2 c.in-Bytes.ensures.reads.3 c.feed_held-at.ensures
     (stands_place c.args.self.now.at at.Reading V T s c.args.self.now.peer (kept c.args.self.now) c.requires h))
 
 pub returns-in-Bytes-clause-reads : goal.returns-in-Bytes-clause-reads
@@ -77,7 +78,7 @@ returns-in-End-clause-holds g c = λ T h.
     let s = g.L.Link.seen c.args.link.now in
     let s' = g.L.Link.seen c.read-read.new.link in
     stands_place (at.Over why.PeerEnd) c.put-in-End.new.at V T s' c.args.self.now.peer _ (sym c.put-in-End.ensures)
-    (read_end V T s s' c.args.self.now.peer (kept c.args.self.now) c.in-End.ensures.keeps _ refl c.in-End.ensures.reads.1 c.in-End.ensures.reads.2
+    (read_end V T s s' c.args.self.now.peer (kept c.args.self.now) c.in-End.ensures.keeps _ refl refl c.in-End.ensures.reads.1 c.in-End.ensures.reads.2
     (stands_place c.args.self.now.at at.Reading V T s c.args.self.now.peer (kept c.args.self.now) c.requires h))
 
 pub returns-in-End-clause-reads : goal.returns-in-End-clause-reads
@@ -102,7 +103,7 @@ returns-in-Failed-clause-holds g c = λ T h.
     let s = g.L.Link.seen c.args.link.now in
     let s' = g.L.Link.seen c.read-read.new.link in
     stands_place (at.Over why.ReadFailed) c.put-in-Failed.new.at V T s' c.args.self.now.peer _ (sym c.put-in-Failed.ensures)
-    (read_failed V T s s' c.args.self.now.peer (kept c.args.self.now) c.in-Failed.ensures.keeps _ refl c.in-Failed.ensures.reads.1
+    (read_failed V T s s' c.args.self.now.peer (kept c.args.self.now) c.in-Failed.ensures.keeps _ refl refl c.in-Failed.ensures.reads.1
     c.in-Failed.ensures.reads.2 c.in-Failed.ensures.reads.3
     (stands_place c.args.self.now.at at.Reading V T s c.args.self.now.peer (kept c.args.self.now) c.requires h))
 

@@ -125,7 +125,7 @@ returns-in-Failed-clause-holds g c = λ T h.
     let s' = g.L.Link.seen c.send.new.link in
     let p = c.args.self.now in
     stands_place (at.Over why.WriteFailed) c.put-in-Failed.new.at V T s' p.peer _ (sym c.put-in-Failed.ensures)
-    (write_failed p.at V T s s' p.peer (kept p) (filled_says p.at p.ring.items c.requires) c.in-Failed.ensures.keeps _ refl
+    (write_failed p.at V T s s' p.peer (kept p) (filled_says p.at p.ring.items c.requires) c.in-Failed.ensures.keeps _ refl refl
     (filled_ring p.at p.ring.items c.requires) c.in-Failed.ensures.sends.1 c.in-Failed.ensures.sends.2 h)
 
 pub returns-in-Failed-clause-says : goal.returns-in-Failed-clause-says
