@@ -22,4 +22,5 @@ pub mod SaysLemmas
 pub mod WorkLemmas
 pub mod ConnLemmas
 pub mod RetellLemmas
+pub mod OwnerLemmas
 pub mod CallerLemmas

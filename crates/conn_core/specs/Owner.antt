@@ -2,6 +2,7 @@
 use Rattle.std.specs.Prelude.{◌≡◌, ◌≢◌, ℕ, [], ◌∷◌, Some, ⊤}
 use Rattle.talk_core.specs.declared.ended.Why.{Why}
 use Rattle.talk_core.specs.declared.ended.Why.TheVariants as why
+use Rattle.talk_core.specs.Ended.{AreLives}
 use Rattle.conn_core.specs.declared.state.State.TheVariants as state
 use Rattle.conn_core.specs.Moves.{SameShown}
 use Rattle.conn_core.specs.Shown.{Shown}
@@ -32,7 +33,7 @@ EndsAnyTime (why.Halted level) = level ≡ 2
 EndsAnyTime why.NoMemory = ⊤
 EndsAnyTime why.Hijacked = ⊥
 
--- it has the one life from its first request on in this phase, and nothing else of it changed
+-- its life is in this phase from now on, and nothing else of it changed
 pub record PlacedIn (phase : ℕ) (old new : Shown) : Type 0 where
-  pub lives : new.lives ≡ record { first = 0; phase = phase } ∷ []
+  pub lives : AreLives old.lives → new.lives ≡ record { first = 0; phase = phase } ∷ []
   pub rest : new ≡ record old { lives = new.lives }

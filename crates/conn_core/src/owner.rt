@@ -5,7 +5,7 @@ ghost use Rattle.rack_outside.specs.Told.{Rose};
 ghost use Rattle.talk_core.specs.Tail.{Voice};
 ghost use Rattle.talk_core.specs.Teller.{Stacks, Teller, last_phase};
 ghost use Rattle.conn_core.specs.Holds.{Holds, HoldsBy, HoldsWith};
-ghost use Rattle.conn_core.specs.Owner.{EndedAs, EndsAnyTime, IsUnread};
+ghost use Rattle.conn_core.specs.Owner.{EndedAs, EndsAnyTime, IsUnread, PlacedIn};
 ghost use Rattle.conn_core.specs.Shown.{shows, shown, number_of, link_of};
 
 use crate::conn::Conn;
@@ -15,7 +15,7 @@ use crate::state::State;
 use hijack_core::Hijack;
 use rack_outside::{Link, Touch, Watcher};
 use rack_types::Body;
-use talk_core::Why;
+use talk_core::{Life, Why};
 
 impl<B: Body, H: Drop> Inside<B, H> {
     // Ends it at once, and closes the body of a reply that is under way.
@@ -27,14 +27,84 @@ impl<B: Body, H: Drop> Inside<B, H> {
     {
         put(&mut self.at, At::Over(why));
     }
+
+    // Ends it unread.
+    fn end_unread(&mut self, level: u64)
+        requires unread { IsUnread (shows self.old) }
+        requires level { 1 ≤ level }
+        ensures holds { (V : Voice H) (T : Teller H) (s : Seen) → HoldsBy V T s self.old → HoldsBy V T s self.new }
+        ensures ends { EndedAs (Why.Unread level) (shows self.old) (shows self.new) }
+    {
+        put(&mut self.at, At::Over(Why::Unread { level }));
+    }
+
+    // Places it in another phase.
+    fn place(&mut self, phase: u32)
+        requires unread { IsUnread (shows self.old) }
+        ensures holds { (V : Voice H) (T : Teller H) (s : Seen) → HoldsBy V T s self.old → HoldsBy V T s self.new }
+        ensures placed { PlacedIn phase (shows self.old) (shows self.new) }
+    {
+        let lives = self.lives.len();
+        if lives > 0 {
+            self.lives[lives - 1].phase = phase;
+        }
+    }
+}
+
+// The phase of the last life.
+fn last_phase(lives: &[Life]) -> u32
+    ensures { result ≡ last_phase lives.now }
+{
+    let count = lives.len();
+    if count == 0 {
+        0
+    } else {
+        lives[count - 1].phase
+    }
 }
 
 impl<L: Link, B: Body, H: Hijack + Drop> Conn<L, B, H> {
+    /// The phase of its last life, which is that of the stack that answers its next request.
+    pub fn phase(&self) -> u32
+        ensures { result ≡ last_phase (shown self.now).lives }
+    {
+        last_phase(&self.inside.lives)
+    }
+
     /// Whether no byte was ever read, and it isn't over.
     pub fn unread(&self) -> bool
         ensures { IsTrue result ↔ IsUnread (shown self.now) }
     {
         self.inside.taken == 0 && !is_over(&self.inside.at)
+    }
+
+    /// Places it anew, in this phase: its next request is answered by the stack of that phase. It needs that no byte
+    /// was ever read. It takes no memory.
+    pub fn place(&mut self, phase: u32)
+        requires unread { IsUnread (shown self.old) }
+        ensures number { number_of self.new ≡ number_of self.old }
+        ensures link { link_of self.new ≡ link_of self.old }
+        ensures placed { PlacedIn phase (shown self.old) (shown self.new) }
+        ensures any { (V : Voice H) (T : Teller H) → HoldsWith L.seen V T self.old → HoldsWith L.seen V T self.new }
+        ensures holds { (V : Voice H) (S : Stacks H) → Holds L.seen V S self.old → Holds L.seen V S self.new }
+    {
+        let inside: &mut Inside<B, H> = &mut self.inside;
+        inside.place(phase);
+    }
+
+    /// Ends it at once, where it has to be let go unread, by draining of this level. It needs that no byte was ever
+    /// read, and a level of at least 1. It takes no memory.
+    pub fn end_unread(&mut self, level: u64)
+        requires unread { IsUnread (shown self.old) }
+        requires level { 1 ≤ level }
+        ensures number { number_of self.new ≡ number_of self.old }
+        ensures link { link_of self.new ≡ link_of self.old }
+        ensures ends { EndedAs (Why.Unread level) (shown self.old) (shown self.new) }
+        ensures any { (V : Voice H) (T : Teller H) → HoldsWith L.seen V T self.old → HoldsWith L.seen V T self.new }
+        ensures holds { (V : Voice H) (S : Stacks H) → Holds L.seen V S self.old → Holds L.seen V S self.new }
+    {
+        let inside: &mut Inside<B, H> = &mut self.inside;
+        inside.end_unread(level);
     }
 
     /// Ends it at once, whatever it is doing, for a halt of this level, which is 2. One that is over stays as
