@@ -12,7 +12,8 @@ from program import PUMA, TOP, run, write
 from wanted import ABSENT, ANSWERED, USAGE
 
 NOBODY = 65534
-TOOLS = ["cat", "cksum", "cmp", "find", "flock", "mkdir", "readlink", "sed", "sh", "sleep", "sort", "tail", "touch"]
+TOOLS = ["cat", "cksum", "cmp", "find", "flock", "mkdir", "readlink", "sed", "sh", "sleep", "sort", "tail", "touch",
+         "xargs"]
 # Says what the real one says, and makes a program that prints its source, its words and its input.
 STAND_IN = b"""#!/bin/sh
 echo call >> ../../calls
@@ -150,8 +151,9 @@ def check_builds(checks):
     builds("the program is gone", b"third")
     tree.write("crates/puma_cli/out/puma_cli", b"#!/bin/sh\necho of another build\n")
     builds("the program is another", b"third")
-    os.truncate(tree.at("crates/puma_cli/out/made_of"), 0)
-    builds("what it was made of is not known", b"third")
+    for kept in ("names", "sums"):
+        os.truncate(tree.at("crates/puma_cli/out/" + kept), 0)
+        builds(f"what it was made of is not known, {kept}", b"third")
     check_failed_builds(checks, tree, source)
     check_lacks(checks, tree, source)
     check_side_by_side(checks, tree, source)
@@ -177,9 +179,9 @@ def check_failed_builds(checks, tree, source):
 def check_lacks(checks, tree, source):
     """Without what a build needs: one line and 125 where there is one to make, and none of it otherwise."""
     fresh, text = (0, b"fifth, more\n", b""), b"fifth, more"
-    for tool in ("rt", "flock", "cksum"):
+    for tool in ("rt", "flock", "cksum", "xargs"):
         os.rename(tree.at("tools/" + tool), tree.at("taken"))
-        if tool != "cksum":
+        if tool in ("rt", "flock"):
             checks.answers(f"without {tool}, the program as it should be", fresh, tree.run())
         tree.write(source, b"stale")
         line = b"bin/puma: the program has to be built, and %s is not on the path\n" % tool.encode()

@@ -13,7 +13,7 @@ use Rattle.conn_core.specs.declared.state.State.TheVariants as state
 use Rattle.conn_core.specs.Answers.{FedSo}
 use Rattle.conn_core.specs.Calls.{FeedEnds, FeedTells, Feeds}
 use Rattle.conn_core.specs.Inner.{IsFed, ReadLeaves, ReadsBy, IsHeard, HearLeaves, HearsBy}
-use Rattle.conn_core.specs.Moves.{OffersRoom, size_of, ReadsOnce}
+use Rattle.conn_core.specs.Moves.{OffersRoom, size_of, ReadsOnce, OwesRightly}
 use Rattle.conn_core.specs.Place.{state_at}
 use Rattle.conn_core.specs.Shown.{Shown, shows}
 
@@ -80,9 +80,9 @@ module _ {B H : Type 0} (b : At B H) (o n : Shown) (s u : Seen) (is : n.state �
   read_tells read.Failed result h reading f =
       subst (λ (r : Next). FeedTells r read.Failed o n h.moved.came s u) (sym f) h.leaves.1
 
-  pub feeding_read : (a : LinkRead) (result : Next) → ReadsBy a o n s u → ReadsOnce a o n s u → o.state ≡ state.Reading → AnswersSo a result b
+  pub feeding_read : (a : LinkRead) (result : Next) → ReadsBy a o n s u → ReadsOnce a o n s u → OwesRightly n → o.state ≡ state.Reading → AnswersSo a result b
       → Feeds result o n s u
-  feeding_read a result h once reading f = record {
+  feeding_read a result h once owes reading f = record {
     answer = a;
     once = once;
     moved = h.moved;
@@ -92,6 +92,7 @@ module _ {B H : Type 0} (b : At B H) (o n : Shown) (s u : Seen) (is : n.state �
     sent = h.sent;
     why = h.why;
     ends = feed_ends a s u once.offers;
+    rightly = owes;
     tells = read_tells a result h reading f;
   }
 
@@ -115,9 +116,9 @@ module _ {B H : Type 0} (b : At B H) (o n : Shown) (s u : Seen) (is : n.state �
   hear_tells read.Failed result h held f =
       subst (λ (r : Next). FeedTells r read.Failed o n h.moved.came s u) (sym f) h.leaves.1
 
-  pub feeding_heard : (a : LinkRead) (result : Next) → HearsBy a o n s u → ReadsOnce a o n s u → o.state ≡ state.Hijacked → AnswersSo a result b
+  pub feeding_heard : (a : LinkRead) (result : Next) → HearsBy a o n s u → ReadsOnce a o n s u → OwesRightly n → o.state ≡ state.Hijacked → AnswersSo a result b
       → Feeds result o n s u
-  feeding_heard a result h once held f = record {
+  feeding_heard a result h once owes held f = record {
     answer = a;
     once = once;
     moved = h.moved;
@@ -127,6 +128,7 @@ module _ {B H : Type 0} (b : At B H) (o n : Shown) (s u : Seen) (is : n.state �
     sent = h.sent;
     why = h.why;
     ends = feed_ends a s u once.offers;
+    rightly = owes;
     tells = hear_tells a result h held f;
   }
 
@@ -134,12 +136,12 @@ module _ {B H : Type 0} (b : At B H) (o n : Shown) (s u : Seen) (is : n.state �
 abbrev pub Went : LinkRead → Shown → Shown → Seen → Seen → Type 0
 Went a o n s u = (((o.state ≡ state.Reading) × ReadsBy a o n s u) ⊎ ((o.state ≡ state.Hijacked) × HearsBy a o n s u)) × ReadsOnce a o n s u
 
-pub feeding_end : {B H : Type 0} (b : At B H) (o n : Shown) (s u : Seen) (a : LinkRead) (result : Next) → n.state ≡ state_at b → Went a o n s u
+pub feeding_end : {B H : Type 0} (b : At B H) (o n : Shown) (s u : Seen) (a : LinkRead) (result : Next) → n.state ≡ state_at b → OwesRightly n → Went a o n s u
     → AnswersSo a result b → Feeds result o n s u
-feeding_end {B} {H} b o n s u a result is went f =
+feeding_end {B} {H} b o n s u a result is owes went f =
     elim went.0 [
-      | inl by ↦ feeding_read b o n s u is a result by.1 went.1 by.0 f
-      | inr by ↦ feeding_heard b o n s u is a result by.1 went.1 by.0 f
+      | inl by ↦ feeding_read b o n s u is a result by.1 went.1 owes by.0 f
+      | inr by ↦ feeding_heard b o n s u is a result by.1 went.1 owes by.0 f
     ]
 
 -- the same, where two ways come together

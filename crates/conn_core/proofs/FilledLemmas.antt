@@ -1,5 +1,5 @@
 -- What a connection shows once the ring was filled.
-use Rattle.std.proofs.Common.{◌≡◌, ◌≢◌, ◌↔◌, ℕ, Bool, true, false, IsTrue, List, [], ◌++◌, refl, sym, ap, subst, ◌∙◌, None, Ok, Err}
+use Rattle.std.proofs.Common.{◌≡◌, ◌≢◌, ◌↔◌, ℕ, Bool, true, false, IsTrue, List, [], ◌++◌, length, length-append, refl, sym, ap, subst, ◌∙◌, arith, inl, inr, None, Ok, Err}
 use Rattle.std.proofs.lemmas.List.{append-nil}
 use Rattle.circular_buffer.specs.Buffer.{Buffer}
 use Rattle.rack_types.specs.declared.peer.Local.{Local}
@@ -91,9 +91,9 @@ not_true : {P : Type 0} → (IsTrue true ↔ P) → P
 not_true {P} e = e.0 refl
 
 module _ {B H : Type 0} (held peer : List ℕ) (local : Local) (lives : List Life) (calls taken : ℕ) where
-  same_place : (goes : Bool) (a b : At B H) (x y : Buffer ℕ) → b ≡ a → y ≡ x → IsSaying a → why_at a ≡ None → (IsTrue goes ↔ IsSaying b)
+  same_place : (goes : Bool) (a b : At B H) (x y : Buffer ℕ) → b ≡ a → y ≡ x → IsSaying a → why_at a ≡ None → sure_at a ≡ true → (IsTrue goes ↔ IsSaying b)
       → FillsShown goes (shown_at a x.items held peer local lives calls taken) (shown_at b y.items held peer local lives calls taken)
-  same_place true a b x y e same is none goes = record {
+  same_place true a b x y e same is none sure goes = record {
     same = record { peer = refl; local = refl; lives = refl; taken = refl };
     calls = refl;
     replied = ap (λ (d : At B H). replied_at d calls) e;
@@ -102,19 +102,19 @@ module _ {B H : Type 0} (held peer : List ℕ) (local : Local) (lives : List Lif
     why = ap (λ (d : At B H). why_at d) e ∙ none;
     held = refl;
     after = ap (λ (d : At B H). after_at d) e;
-    sure = λ sure. ap (λ (d : At B H). sure_at d) e ∙ sure;
+    sure = λ few. ap (λ (d : At B H). sure_at d) e ∙ sure;
   }
-  same_place false a b x y e same is none goes = absurd (not_false goes (subst (λ (d : At B H). IsSaying d) (sym e) is))
+  same_place false a b x y e same is none sure goes = absurd (not_false goes (subst (λ (d : At B H). IsSaying d) (sym e) is))
 
-  pub fills_shown : (goes : Bool) (a b : At B H) (x y : Buffer ℕ) → FillsTo a x b y → IsSaying a → (IsTrue goes ↔ IsSaying b)
+  pub fills_shown : (goes : Bool) (a b : At B H) (x y : Buffer ℕ) → x.capacity ≡ ring_room → FillsTo a x b y → IsSaying a → (IsTrue goes ↔ IsSaying b)
       → FillsShown goes (shown_at a x.items held peer local lives calls taken) (shown_at b y.items held peer local lives calls taken)
-  fills_shown goes at.Reading b x y e is by = absurd is
-  fills_shown goes at.Asked b x y e is by = absurd is
-  fills_shown goes (at.Refused f) b x y e is by = absurd is
-  fills_shown goes (at.Answering f) at.Reading x y e is by = absurd e
-  fills_shown goes (at.Answering f) at.Asked x y e is by = absurd e
-  fills_shown goes (at.Answering f) (at.Refused fault) x y e is by = absurd e
-  fills_shown true (at.Answering f) (at.Answering new) x y e is by = record {
+  fills_shown goes at.Reading b x y room e is by = absurd is
+  fills_shown goes at.Asked b x y room e is by = absurd is
+  fills_shown goes (at.Refused f) b x y room e is by = absurd is
+  fills_shown goes (at.Answering f) at.Reading x y room e is by = absurd e
+  fills_shown goes (at.Answering f) at.Asked x y room e is by = absurd e
+  fills_shown goes (at.Answering f) (at.Refused fault) x y room e is by = absurd e
+  fills_shown true (at.Answering f) (at.Answering new) x y room e is by = record {
     same = record { peer = refl; local = refl; lives = refl; taken = refl };
     calls = refl;
     replied = refl;
@@ -123,10 +123,23 @@ module _ {B H : Type 0} (held peer : List ℕ) (local : Local) (lives : List Lif
     why = refl;
     held = refl;
     after = ap (λ (z : After). body_after new.rest.rule z) e.1 ∙ fill_after f.rest new.rest (Ok Full) x y f.after e.0;
-    sure = λ sure. e.0.sure ∙ sure;
+    sure = λ sure.
+        elim sure [
+          | inl before ↦ e.0.sure ∙ before
+          | inr few ↦ absurd (omega (
+            arith,
+            few,
+            e.0.answer.0,
+            e.0.answer.1,
+            fill_room f.rest new.rest (Ok Full) x y e.0,
+            room,
+            ap length (fill_moves f.rest new.rest (Ok Full) x y e.0),
+            length-append y.items new.rest.bytes,
+          ))
+        ];
   }
-  fills_shown false (at.Answering f) (at.Answering new) x y e is by = absurd (not_false by tt)
-  fills_shown true (at.Answering f) (at.Writing keeps) x y e is by = record {
+  fills_shown false (at.Answering f) (at.Answering new) x y room e is by = absurd (not_false by tt)
+  fills_shown true (at.Answering f) (at.Writing keeps) x y room e is by = record {
     same = record { peer = refl; local = refl; lives = refl; taken = refl };
     calls = refl;
     replied = refl;
@@ -137,8 +150,8 @@ module _ {B H : Type 0} (held peer : List ℕ) (local : Local) (lives : List Lif
     after = e.keeps_is ∙ e.after_is ∙ written_after f.rest e.new.rest e.result x y f.after e.unfilled e.fills;
     sure = λ sure. refl;
   }
-  fills_shown false (at.Answering f) (at.Writing keeps) x y e is by = absurd (not_false by tt)
-  fills_shown true (at.Answering f) (at.Handing h) x y e is by = record {
+  fills_shown false (at.Answering f) (at.Writing keeps) x y room e is by = absurd (not_false by tt)
+  fills_shown true (at.Answering f) (at.Handing h) x y room e is by = record {
     same = record { peer = refl; local = refl; lives = refl; taken = refl };
     calls = refl;
     replied = refl;
@@ -149,34 +162,34 @@ module _ {B H : Type 0} (held peer : List ℕ) (local : Local) (lives : List Lif
     after = sym e.taken ∙ e.after_is ∙ written_after f.rest e.new.rest e.result x y f.after e.unfilled e.fills;
     sure = λ sure. refl;
   }
-  fills_shown false (at.Answering f) (at.Handing h) x y e is by = absurd (not_false by tt)
-  fills_shown goes (at.Answering f) at.Refusing x y e is by = absurd e
-  fills_shown goes (at.Answering f) (at.Taken h) x y e is by = absurd e
-  fills_shown goes (at.Answering f) (at.Speaking h) x y e is by = absurd e
-  fills_shown goes (at.Answering f) at.Parting x y e is by = absurd e
-  fills_shown goes (at.Answering f) (at.Over why.Closed) x y e is by = absurd e
-  fills_shown goes (at.Answering f) (at.Over why.PeerEnd) x y e is by = absurd e
-  fills_shown goes (at.Answering f) (at.Over (why.Idle reason)) x y e is by = absurd e
-  fills_shown goes (at.Answering f) (at.Over (why.TimedOut since moment)) x y e is by = absurd e
-  fills_shown goes (at.Answering f) (at.Over (why.Stalled since moment)) x y e is by = absurd e
-  fills_shown goes (at.Answering f) (at.Over (why.Unread level)) x y e is by = absurd e
-  fills_shown goes (at.Answering f) (at.Over why.ReadFailed) x y e is by = absurd e
-  fills_shown goes (at.Answering f) (at.Over why.WriteFailed) x y e is by = absurd e
-  fills_shown goes (at.Answering f) (at.Over (why.Halted level)) x y e is by = absurd e
-  fills_shown true (at.Answering f) (at.Over why.NoMemory) x y e is by = absurd (not_true by)
-  fills_shown false (at.Answering f) (at.Over why.NoMemory) x y e is by = (
+  fills_shown false (at.Answering f) (at.Handing h) x y room e is by = absurd (not_false by tt)
+  fills_shown goes (at.Answering f) at.Refusing x y room e is by = absurd e
+  fills_shown goes (at.Answering f) (at.Taken h) x y room e is by = absurd e
+  fills_shown goes (at.Answering f) (at.Speaking h) x y room e is by = absurd e
+  fills_shown goes (at.Answering f) at.Parting x y room e is by = absurd e
+  fills_shown goes (at.Answering f) (at.Over why.Closed) x y room e is by = absurd e
+  fills_shown goes (at.Answering f) (at.Over why.PeerEnd) x y room e is by = absurd e
+  fills_shown goes (at.Answering f) (at.Over (why.Idle reason)) x y room e is by = absurd e
+  fills_shown goes (at.Answering f) (at.Over (why.TimedOut since moment)) x y room e is by = absurd e
+  fills_shown goes (at.Answering f) (at.Over (why.Stalled since moment)) x y room e is by = absurd e
+  fills_shown goes (at.Answering f) (at.Over (why.Unread level)) x y room e is by = absurd e
+  fills_shown goes (at.Answering f) (at.Over why.ReadFailed) x y room e is by = absurd e
+  fills_shown goes (at.Answering f) (at.Over why.WriteFailed) x y room e is by = absurd e
+  fills_shown goes (at.Answering f) (at.Over (why.Halted level)) x y room e is by = absurd e
+  fills_shown true (at.Answering f) (at.Over why.NoMemory) x y room e is by = absurd (not_true by)
+  fills_shown false (at.Answering f) (at.Over why.NoMemory) x y room e is by = (
     refl,
     sym e.2.sure ∙ e.2.answer,
     record { same = record { peer = refl; local = refl; lives = refl; taken = refl }; calls = refl; state = refl; why = refl },
   )
-  fills_shown goes (at.Answering f) (at.Over why.Hijacked) x y e is by = absurd e
-  fills_shown goes (at.Writing keeps) b x y e is by = same_place goes (at.Writing keeps) b x y e.0 e.1 is refl by
-  fills_shown goes (at.Handing h) b x y e is by = same_place goes (at.Handing h) b x y e.0 e.1 is refl by
-  fills_shown goes at.Refusing b x y e is by = same_place goes at.Refusing b x y e.0 e.1 is refl by
-  fills_shown goes (at.Taken h) b x y e is by = absurd is
-  fills_shown goes (at.Speaking h) b x y e is by = same_place goes (at.Speaking h) b x y e.0 e.1 is refl by
-  fills_shown goes at.Parting b x y e is by = same_place goes at.Parting b x y e.0 e.1 is refl by
-  fills_shown goes (at.Over ended) b x y e is by = absurd is
+  fills_shown goes (at.Answering f) (at.Over why.Hijacked) x y room e is by = absurd e
+  fills_shown goes (at.Writing keeps) b x y room e is by = same_place goes (at.Writing keeps) b x y e.0 e.1 is refl refl by
+  fills_shown goes (at.Handing h) b x y room e is by = same_place goes (at.Handing h) b x y e.0 e.1 is refl refl by
+  fills_shown goes at.Refusing b x y room e is by = same_place goes at.Refusing b x y e.0 e.1 is refl refl by
+  fills_shown goes (at.Taken h) b x y room e is by = absurd is
+  fills_shown goes (at.Speaking h) b x y room e is by = same_place goes (at.Speaking h) b x y e.0 e.1 is refl refl by
+  fills_shown goes at.Parting b x y room e is by = same_place goes at.Parting b x y e.0 e.1 is refl refl by
+  fills_shown goes (at.Over ended) b x y room e is by = absurd is
 
 -- what is said next is in the ring
 pub fills_some : {B H : Type 0} (a b : At B H) (x y : Buffer ℕ) (intake : Intake) (held : List ℕ) (calls : ℕ) → FillsTo a x b y → IsSaying a

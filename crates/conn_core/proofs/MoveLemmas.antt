@@ -20,7 +20,7 @@ use Rattle.conn_core.specs.Inner.{IsFilledAt}
 use Rattle.conn_core.specs.Moves.{ring_room, FedTo, ToldTo, KeptTo, BehindWrite, OwesAs, OwesRightly, Move, Moment, Makes, Goes, IsOwing}
 use Rattle.conn_core.specs.Place.{IsSaying, IsHearing, MayRead, state_at}
 use Rattle.conn_core.specs.Rests.{RestsAt}
-use Rattle.conn_core.specs.Shown.{shows, replied_at, owed_at, why_at, fault_at, after_at, sure_at}
+use Rattle.conn_core.specs.Shown.{Shown, shows, replied_at, owed_at, why_at, fault_at, after_at, sure_at}
 use Rattle.conn_core.specs.Steps.{FeedsHeld, Tells, CompletesTo}
 use Rattle.conn_core.proofs.FilledLemmas.{shown_at}
 use Rattle.conn_core.proofs.SaidLemmas.{filled_ring, filled_owes}
@@ -48,9 +48,9 @@ rests_owe {B} {H} (at.Answering f) intake held ring calls peer local lives taken
 rests_owe {B} {H} (at.Writing keeps) intake held ring calls peer local lives taken r = some_not ring r.0
 rests_owe {B} {H} (at.Handing h) intake held ring calls peer local lives taken r = some_not ring r.0
 rests_owe {B} {H} at.Refusing intake held ring calls peer local lives taken r = some_not ring r
-rests_owe {B} {H} (at.Taken h) intake held ring calls peer local lives taken r = λ keeps. r.0
-rests_owe {B} {H} (at.Speaking h) intake held ring calls peer local lives taken r = λ keeps. r.0
-rests_owe {B} {H} at.Parting intake held ring calls peer local lives taken r = λ keeps. cc
+rests_owe {B} {H} (at.Taken h) intake held ring calls peer local lives taken r = (λ e. cc, λ keeps. r.0, λ closes. cc)
+rests_owe {B} {H} (at.Speaking h) intake held ring calls peer local lives taken r = (λ e. cc, λ keeps. r.0, λ closes. cc)
+rests_owe {B} {H} at.Parting intake held ring calls peer local lives taken r = (λ e. cc, λ keeps. cc, λ closes. some_not ring r)
 rests_owe {B} {H} (at.Over w) intake held ring calls peer local lives taken r = refl
 
 pub owes_rightly : {B H : Type 0} {g : Ghosts B} (p : Inside B H g) → OwesRightly (shows p)
@@ -309,6 +309,24 @@ told_count {B} {H} V h (at.Over (why.Halted level)) piece ring left calls t = ab
 told_count {B} {H} V h (at.Over why.NoMemory) piece ring left calls t = refl
 told_count {B} {H} V h (at.Over why.Hijacked) piece ring left calls t = refl
 
+-- all that is owed is in the ring, where it isn't more than that holds
+pub filled_sure : {B H : Type 0} (a : At B H) (ring : List ℕ) → IsFilledAt a ring → (sure_at a ≡ true) ⊎ (length (owed_at a ring) ≤ ring_room) → sure_at a ≡ true
+filled_sure {B} {H} at.Reading ring is e = refl
+filled_sure {B} {H} at.Asked ring is e = refl
+filled_sure {B} {H} (at.Refused f) ring is e = refl
+filled_sure {B} {H} (at.Answering f) ring is e =
+    elim e [
+      | inl sure ↦ sure
+      | inr few ↦ absurd (omega (arith, is.0, is.1, few, length-append ring f.rest.bytes))
+    ]
+filled_sure {B} {H} (at.Writing keeps) ring is e = refl
+filled_sure {B} {H} (at.Handing h) ring is e = refl
+filled_sure {B} {H} at.Refusing ring is e = refl
+filled_sure {B} {H} (at.Taken h) ring is e = refl
+filled_sure {B} {H} (at.Speaking h) ring is e = refl
+filled_sure {B} {H} at.Parting ring is e = refl
+filled_sure {B} {H} (at.Over w) ring is e = refl
+
 module _ {B H : Type 0} (peer : List ℕ) (local : Local) (lives : List Life) (calls taken : ℕ) where
   -- the link took some of the ring, and not all
   pub took_some : (a : At B H) (before after held : List ℕ) (n : ℕ) → IsFilledAt a before → after ≡ drop n before → n ≤ length before
@@ -324,7 +342,7 @@ module _ {B H : Type 0} (peer : List ℕ) (local : Local) (lives : List Life) (c
         replied = refl;
         held = refl;
         after = refl;
-        sure = λ sure. sure;
+        sure = filled_sure a before is;
       })
 
   -- it had to wait
@@ -338,7 +356,7 @@ module _ {B H : Type 0} (peer : List ℕ) (local : Local) (lives : List Life) (c
     replied = refl;
     held = refl;
     after = refl;
-    sure = λ sure. sure;
+    sure = filled_sure a before is;
   }
 
   -- the bytes held were fed behind a reply
@@ -365,7 +383,7 @@ module _ {B H : Type 0} (peer : List ℕ) (local : Local) (lives : List Life) (c
   kept_fed (at.Over why.ReadFailed) before ring held left fresh new empty f none some = absurd f
   kept_fed (at.Over why.WriteFailed) before ring held left fresh new empty f none some = absurd f
   kept_fed (at.Over (why.Halted level)) before ring held left fresh new empty f none some = absurd f
-  kept_fed (at.Over why.NoMemory) before ring held left fresh new empty f none some = (refl, some_not held (f.rightly [] empty).some)
+  kept_fed (at.Over why.NoMemory) before ring held left fresh new empty f none some = (refl, f.rightly [] empty)
   kept_fed (at.Over why.Hijacked) before ring held left fresh new empty f none some = absurd f
 
   -- the link took all of it
@@ -385,7 +403,7 @@ module _ {B H : Type 0} (peer : List ℕ) (local : Local) (lives : List Life) (c
         replied = ap (λ (d : At B H). replied_at d calls) e.0;
         held = e.1.1;
         after = ap (λ (d : At B H). after_at d) e.0;
-        sure = λ sure. ap (λ (d : At B H). sure_at d) e.0 ∙ sure;
+        sure = λ sure. ap (λ (d : At B H). sure_at d) e.0 ∙ filled_sure {B = B} {H = H} (at.Answering f) before is sure;
       })
   took_all V (at.Writing true) b before ring held left n old new e is rests off few =
       inr (sym off, kept_fed b before ring held left e.0 new e.1 e.2 e.3 rests.1.1.0)
@@ -428,3 +446,11 @@ unrefused {B} {H} (at.Taken h) e not = cc
 unrefused {B} {H} (at.Speaking h) e not = cc
 unrefused {B} {H} at.Parting e not = cc
 unrefused {B} {H} (at.Over w) e not = cc
+
+-- the same bytes held show the same
+pub held_same : (o : Shown) (held : List ℕ) → held ≡ o.held → record o { held = held } ≡ o
+held_same o held e = ap (λ (x : List ℕ). record o { held = x }) e
+
+-- no byte is held where requests are read
+pub reading_held : {B H : Type 0} {g : Ghosts B} (p : Inside B H g) → p.at ≡ at.Reading → p.held ≡ []
+reading_held {B} {H} {g} p e = (subst (λ (a : At B H). RestsAt a p.intake p.held p.ring.items p.calls) e p.rests).0

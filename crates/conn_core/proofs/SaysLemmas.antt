@@ -7,6 +7,7 @@ use Rattle.reply_framing.specs.declared.types.After.{After}
 use Rattle.reply_framing.specs.declared.types.After.TheVariants.{Keep, Close, Hijack}
 use Rattle.talk_core.specs.Counts.{counted_by}
 use Rattle.talk_core.specs.declared.ended.Why.{Why}
+use Rattle.message_framing.specs.Intake.{LacksRightly}
 use Rattle.conn_core.specs.declared.left.Said.{Said}
 use Rattle.conn_core.specs.declared.left.Said.TheVariants as said
 use Rattle.conn_core.specs.declared.state.State.{State}
@@ -114,7 +115,7 @@ still_behind old mid new rest left e f h = record {
   replied = h.replied ∙ f.replied;
   held = h.held ∙ f.held;
   after = h.after ∙ f.after;
-  sure = λ sure. h.sure (f.sure sure);
+  sure = λ sure. h.sure (inl (f.sure sure));
 }
 
 kept_behind : (x : State) (w : Option Why) (old mid new : Shown) → Fills old mid → KeptTo x w mid new → KeptTo x w old new
@@ -122,7 +123,7 @@ kept_behind state.Reading w old mid new f h = (h.0, h.1 ∙ ap (λ (n : ℕ). n 
 kept_behind state.Ready w old mid new f h = (h.0, h.1 ∙ ap (λ (n : ℕ). n + 1) f.replied, h.2)
 kept_behind state.Answering w old mid new f h = absurd h
 kept_behind state.Hijacked w old mid new f h = absurd h
-kept_behind state.Over w old mid new f h = (h.0, λ none. h.1 (f.held ∙ none))
+kept_behind state.Over w old mid new f h = (h.0, subst (λ (x : List ℕ). LacksRightly [] x) f.held h.1)
 
 sent_behind : (x : State) (a : After) (old mid new : Shown) → Fills old mid → SentTo x a mid new → SentTo x a old new
 sent_behind state.Answering Keep old mid new f h = kept_behind new.state new.why old mid new f h
@@ -169,7 +170,7 @@ pub once_behind : (result : Said) (old mid new : Shown) (s s' : Seen) → Fills 
 once_behind said.Unwritten old mid new s s' f h = (
   h.0,
   sym f.state ∙ h.1,
-  unsure old.sure mid.sure f.sure h.2,
+  unsure old.sure mid.sure (λ sure. f.sure (inl sure)) h.2,
   record { same = same_then old mid new f.same h.3.same; calls = h.3.calls ∙ f.calls; state = h.3.state; why = h.3.why },
 )
 once_behind said.Wrote old mid new s s' f h = (h.0, h.1, write_behind h.0 old mid new s s' f h.2)

@@ -11,7 +11,7 @@ use Rattle.conn_core.specs.declared.state.Next.TheVariants as next
 use Rattle.conn_core.specs.declared.state.State.{State}
 use Rattle.conn_core.specs.declared.state.State.TheVariants as state
 use Rattle.conn_core.specs.Shown.{Shown, Moved}
-use Rattle.conn_core.specs.Moves.{size_of, ReadsOnce, Move, Goes, turn_at, TurnStops, flush_at, FlushStops}
+use Rattle.conn_core.specs.Moves.{size_of, ReadsOnce, Move, Goes, turn_at, TurnStops, flush_at, FlushStops, OwesRightly}
 
 -- why a turn may end a connection, by what became of its link: that a read told the peer's end, or that a failure
 -- was counted. Whether the peer ended changes only with the first of them
@@ -79,6 +79,7 @@ pub record Feeds (result : Next) (old new : Shown) (s s' : Seen) : Type 0 where
   pub sent : s'.sent ≡ s.sent
   pub why : IsOfFeed new.why
   pub ends : FeedEnds answer s s'
+  pub rightly : OwesRightly new
   pub tells : FeedTells result answer old new moved.came s s'
 
 -- the last run, read or write of a turn was made

@@ -174,7 +174,7 @@ pub record Fills (old new : Shown) : Type 0 where
   pub why : new.why ≡ None
   pub held : new.held ≡ old.held
   pub after : new.after ≡ old.after
-  pub sure : old.sure ≡ true → new.sure ≡ true
+  pub sure : (old.sure ≡ true) ⊎ (length old.owed ≤ ring_room) → new.sure ≡ true
 
 abbrev pub FillsShown : Bool → Shown → Shown → Type 0
 FillsShown true old new = Fills old new

@@ -1,11 +1,12 @@
 -- The moves of a call, one by one: a request is run, a refusal is named, memory is refused, a read or a write is made.
-use Rattle.std.specs.Prelude.{◌≡◌, ◌≢◌, ℕ, ◌+◌, ◌-◌, ◌<◌, Bool, true, false, List, [], ◌∷◌, length, take, drop, Option, None, Some, ◌⊎◌, ⊤}
+use Rattle.std.specs.Prelude.{◌≡◌, ◌≢◌, ℕ, ◌+◌, ◌-◌, ◌<◌, ◌≤◌, Bool, true, false, List, [], ◌∷◌, length, take, drop, Option, None, Some, ◌⊎◌, ⊤}
 use Rattle.rack_types.specs.declared.fault.Fault.{Fault}
 use Rattle.rack_outside.specs.Link.{Seen, Reads, IsOneRead, ReadsAhead, Writes, IsOneWrite, WritesAhead, next_place}
 use Rattle.rack_outside.specs.declared.link.LinkRead.{LinkRead}
 use Rattle.rack_outside.specs.declared.link.LinkRead.TheVariants as read
 use Rattle.rack_outside.specs.declared.link.LinkWrite.{LinkWrite}
 use Rattle.rack_outside.specs.declared.link.LinkWrite.TheVariants as write
+use Rattle.message_framing.specs.Intake.{LacksRightly}
 use Rattle.reply_framing.specs.Fault.{fault_reply}
 use Rattle.reply_framing.specs.declared.types.After.{After}
 use Rattle.reply_framing.specs.declared.types.After.TheVariants.{Keep, Close, Hijack}
@@ -107,11 +108,11 @@ EndedTo new = ToldTo new.state new.why × (new.state ≡ state.Hijacked → (new
 -- peer's end, and behind a failure, an end that is named for it, unless a hijacker was told the peer's end
 abbrev pub BehindRead : State → LinkRead → Shown → Shown → Type 0
 BehindRead state.Reading (read.Bytes n) old new = FedTo new.state new.why × (new.owed ≡ old.owed)
-BehindRead state.Reading read.NotYet old new = (new.state ≡ state.Reading) × (new.why ≡ None) × (new.owed ≡ old.owed)
+BehindRead state.Reading read.NotYet old new = new ≡ old
 BehindRead state.Reading read.End old new = (new.state ≡ state.Over) × (new.why ≡ Some why.PeerEnd)
 BehindRead state.Reading read.Failed old new = (new.state ≡ state.Over) × (new.why ≡ Some why.ReadFailed)
 BehindRead state.Hijacked (read.Bytes n) old new = ToldTo new.state new.why
-BehindRead state.Hijacked read.NotYet old new = (new.state ≡ state.Hijacked) × (new.why ≡ None) × (new.owed ≡ old.owed)
+BehindRead state.Hijacked read.NotYet old new = new ≡ old
 BehindRead state.Hijacked read.End old new = EndedTo new
 BehindRead state.Hijacked read.Failed old new = (new.state ≡ state.Over) × (new.why ≡ Some why.ReadFailed)
 BehindRead state.Ready answer old new = ⊥
@@ -146,16 +147,16 @@ pub record StillOwes (rest : List ℕ) (old new : Shown) : Type 0 where
   pub replied : new.replied ≡ old.replied
   pub held : new.held ≡ old.held
   pub after : new.after ≡ old.after
-  pub sure : old.sure ≡ true → new.sure ≡ true
+  pub sure : (old.sure ≡ true) ⊎ (length old.owed ≤ ring_room) → new.sure ≡ true
 
 -- a reply was sent whole behind which the connection goes on: the bytes held were fed, for which memory may be refused
--- where there are some
+-- where they take some
 abbrev pub KeptTo : State → Option Why → Shown → Shown → Type 0
 KeptTo state.Reading w old new = (w ≡ None) × (new.replied ≡ old.replied + 1) × (new.owed ≡ [])
 KeptTo state.Ready w old new = (w ≡ None) × (new.replied ≡ old.replied + 1) × (new.owed ≡ [])
 KeptTo state.Answering w old new = ⊥
 KeptTo state.Hijacked w old new = ⊥
-KeptTo state.Over w old new = (w ≡ Some why.NoMemory) × (old.held ≢ [])
+KeptTo state.Over w old new = (w ≡ Some why.NoMemory) × LacksRightly [] old.held
 
 -- all that was owed is sent. Behind a reply the connection goes on or closes, or a hijacker takes it over and is told the
 -- bytes held. Behind what a hijacker said it has the connection, or that was its last
@@ -189,13 +190,13 @@ pub record WritesOnce (answer : LinkWrite) (old new : Shown) (s s' : Seen) : Typ
   pub calls : new.calls ≡ old.calls
   pub behind : BehindWrite answer old new
 
--- bytes are owed where a reply is under way, and else only where a hijacker has the connection, which holds none; and
--- no byte is held where more are to be read
+-- bytes are owed where a reply is under way, and else only where a hijacker has the connection. No byte is held where
+-- more are to be read, nor where a hijacker goes on; and what one said last is owed
 abbrev pub OwesAs : State → Shown → Type 0
 OwesAs state.Reading s = (s.owed ≡ []) × (s.held ≡ [])
 OwesAs state.Ready s = s.owed ≡ []
 OwesAs state.Answering s = s.owed ≢ []
-OwesAs state.Hijacked s = s.after ≡ Keep → s.held ≡ []
+OwesAs state.Hijacked s = (s.after ≢ Hijack) × (s.after ≡ Keep → s.held ≡ []) × (s.after ≡ Close → s.owed ≢ [])
 OwesAs state.Over s = s.owed ≡ []
 
 abbrev pub OwesRightly : Shown → Type 0

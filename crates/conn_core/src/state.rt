@@ -9,7 +9,8 @@ pub enum State {
     Ready,
     /// A reply is under way: it is to be flushed.
     Answering,
-    /// A hijacker has it.
+    /// A hijacker has it: it is to be flushed where it wants to write, as what the hijacker said last, and else
+    /// to be fed.
     Hijacked,
     /// It ended: it is to be finished.
     Over,

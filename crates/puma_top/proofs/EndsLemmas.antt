@@ -1,5 +1,5 @@
 -- Why a connection ended that was driven.
-use Rattle.std.proofs.Common.{◌≡◌, ◌≢◌, ◌≤◌, refl, arith, Option, None, Some, inl, inr}
+use Rattle.std.proofs.Common.{◌≡◌, ◌≢◌, ◌≤◌, refl, ap, arith, Option, None, Some, inl, inr}
 use Rattle.rack_outside.specs.Link.{Seen}
 use Rattle.rack_outside.specs.Told.{Rose}
 use Rattle.rack_outside.specs.declared.link.LinkRead.{LinkRead}
@@ -70,13 +70,13 @@ told_sound state.Over w h = λ e. elim h [ inl x ↦ cc (e, x) | inr x ↦ cc (e
 read_fails : (b : State) (a : LinkRead) (o n : Shown) (s u : Seen) → o.why ≡ None → BehindRead b a o n → FeedEnds a s u → n.why ≡ Some why.ReadFailed
     → Rose s.failed_reads u.failed_reads
 read_fails state.Reading (read.Bytes n) old new s u none h ends e = absurd (fed_sound new.state new.why h.0 e)
-read_fails state.Reading read.NotYet old new s u none h ends e = cc (e, h.1)
+read_fails state.Reading read.NotYet old new s u none h ends e = let same : new.why ≡ old.why = ap (λ (x : Shown). x.why) h in cc (e, same, none)
 read_fails state.Reading read.End old new s u none h ends e = cc (e, h.1)
 read_fails state.Reading read.Failed old new s u none h ends e = ends.1
 read_fails state.Ready a old new s u none h ends e = absurd h
 read_fails state.Answering a old new s u none h ends e = absurd h
 read_fails state.Hijacked (read.Bytes n) old new s u none h ends e = absurd (told_sound new.state new.why h e)
-read_fails state.Hijacked read.NotYet old new s u none h ends e = cc (e, h.1)
+read_fails state.Hijacked read.NotYet old new s u none h ends e = let same : new.why ≡ old.why = ap (λ (x : Shown). x.why) h in cc (e, same, none)
 read_fails state.Hijacked read.End old new s u none h ends e = absurd (told_sound new.state new.why h.0 e)
 read_fails state.Hijacked read.Failed old new s u none h ends e = ends.1
 read_fails state.Over a old new s u none h ends e = absurd h

@@ -1,5 +1,5 @@
 -- What reads and writes leave of a connection that a hijacker has.
-use Rattle.std.proofs.Common.{◌≡◌, ◌≢◌, ℕ, false, List, [], ◌∷◌, refl, sym, subst, ◌∙◌, Option, ◌⊎◌, inl, inr}
+use Rattle.std.proofs.Common.{◌≡◌, ◌≢◌, ℕ, false, List, [], ◌∷◌, refl, ap, sym, subst, ◌∙◌, Option, ◌⊎◌, inl, inr}
 use Rattle.rack_outside.specs.Link.{Seen}
 use Rattle.rack_outside.specs.declared.link.LinkRead.{LinkRead}
 use Rattle.rack_outside.specs.declared.link.LinkRead.TheVariants as read
@@ -35,14 +35,14 @@ abbrev Told : LinkRead → Shown → Type 0
 Told a n =
     ((n.state ≡ state.Hijacked) ⊎ (n.state ≡ state.Over)) × (a ≡ read.End → n.state ≡ state.Hijacked → (n.after ≡ Close) × (n.owed ≢ []))
 
-told_by : (a : LinkRead) (o n : Shown) → BehindRead state.Hijacked a o n → Told a n
-told_by (read.Bytes k) o n h = (told_state n.state n.why h, λ e. cc)
-told_by read.NotYet o n h = (inl h.0, λ e. cc)
-told_by read.End o n h = (told_state n.state n.why h.0, λ e. h.1)
-told_by read.Failed o n h = (inr h.0, λ e. cc)
+told_by : (a : LinkRead) (o n : Shown) → o.state ≡ state.Hijacked → BehindRead state.Hijacked a o n → Told a n
+told_by (read.Bytes k) o n is h = (told_state n.state n.why h, λ e. cc)
+told_by read.NotYet o n is h = (inl (ap (λ (x : Shown). x.state) h ∙ is), λ e. cc)
+told_by read.End o n is h = (told_state n.state n.why h.0, λ e. h.1)
+told_by read.Failed o n is h = (inr h.0, λ e. cc)
 
 pub heard_state : (a : LinkRead) (o n : Shown) (s u : Seen) → o.state ≡ state.Hijacked → ReadsOnce a o n s u → Told a n
-heard_state a o n s u is h = told_by a o n (subst (λ (x : State). BehindRead x a o n) is h.behind)
+heard_state a o n s u is h = told_by a o n is (subst (λ (x : State). BehindRead x a o n) is h.behind)
 
 -- what is said last stays the last, until it is over
 abbrev Lasts : Shown → Type 0

@@ -1,5 +1,5 @@
 // The pairs that come of a request's fields.
-ghost use Rattle.std.specs.Prelude.{◌≡◌, OnOk, map, option_copied};
+ghost use Rattle.std.specs.Prelude.{◌≡◌, ◌≤◌, ◌+◌, OnOk, length, map, option_copied, take, vec_len};
 ghost use Rattle.std.specs.List.{fold, list_any};
 ghost use Rattle.rack_types.specs.Env.{with_pairs};
 ghost use Rattle.rack_env.specs.Fields as spec;
@@ -10,6 +10,12 @@ use rack_types::{Env, NoMemory, Request};
 
 // The name that the Host field has in the environment.
 const HTTP_HOST: &[u8] = b"HTTP_HOST";
+
+// The length of `HTTP_`, with which each name begins.
+const PREFIX: usize = 5;
+
+// How much longer than a name asks for the room is made, so that it seldom grows.
+const SPARE: usize = 64;
 
 /// Puts the fields behind what is there, with the target's authority for the Host field.
 pub(crate) fn put_fields(env: &mut Env, request: &Request) -> Result<(), NoMemory>
@@ -50,7 +56,7 @@ fn put_field(
         return Ok(());
     }
     write_name(room, field)?;
-    let name = room.as_slice();
+    let name = &room[..PREFIX + field.len()];
     match authority {
         Some(authority) if name == HTTP_HOST => env.set_static(HTTP_HOST, authority),
         _ => env.add(name, b", ", value),
@@ -74,15 +80,31 @@ fn has_underscore(name: &[u8]) -> bool
     name.contains(&b'_')
 }
 
-// Writes the name that a field has in the environment.
-fn write_name(name: &mut Vec<u8>, field: &[u8]) -> Result<(), NoMemory>
-    ensures { OnOk result (name.new.items ≡ spec.http_name field.now) }
+// Writes the name that a field has in the environment to the front of the room. Behind the prefix it raises
+// whole groups of eight bytes, which is faster than the last bytes one by one, so the room goes on behind the name.
+fn write_name(room: &mut Vec<u8>, field: &[u8]) -> Result<(), NoMemory>
+    ensures room { OnOk result (5 + length field.now ≤ vec_len room.new) }
+    ensures name { OnOk result (take (5 + length field.now) room.new.items ≡ spec.http_name field.now) }
 {
-    name.clear();
-    name.extend_from_slice(b"HTTP_")?;
-    name.extend_from_slice(field)?;
-    raise(name.as_mut_slice());
+    let groups = field.len() / 8 + 1;
+    let end = PREFIX + groups * 8;
+    if room.len() < end {
+        room.resize(end + SPARE, 0)?;
+    }
+    let (prefix, place) = room.as_mut_slice().split_at_mut(PREFIX);
+    prefix.copy_from_slice(b"HTTP_");
+    write_raised(&mut place[..groups * 8], field);
     Ok(())
+}
+
+// Writes the bytes of a field's name to the front of a place, raised. What is behind them is not said.
+fn write_raised(place: &mut [u8], field: &[u8])
+    requires { length field.now ≤ length place.old }
+    ensures len { length place.new ≡ length place.old }
+    ensures raised { take (length field.now) place.new ≡ map spec.name_byte field.now }
+{
+    place[..field.len()].copy_from_slice(field);
+    raise(place);
 }
 
 // Raises each byte of a name, in one pass.

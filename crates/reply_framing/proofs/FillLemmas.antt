@@ -126,7 +126,7 @@ module _ {B : Type 0} (content : B → Content) (taken : B → List ℕ) where
       record {
         appends = appends_then _ _ _ x y z s.appends more;
         rule = (let e : (rest_of content taken q).rule ≡ (rest_of content taken p).rule = cc in e) ∙ s.rule;
-        sure = ap (λ b. (content_of content taken b).sure) body ∙ s.sure;
+        sure = (let e : (rest_of content taken q).sure ≡ (rest_of content taken p).sure = cc in e) ∙ s.sure;
         form = form ∙ s.form;
         raises = ap (λ b. (content_of content taken b).raises) body ∙ s.raises;
         pulls = pulls_append o (rest_of content taken p) (rest_of content taken q) s.pulls

@@ -14,7 +14,7 @@ use Rattle.reply_framing.specs.declared.pull.Stage.{Stage}
 use Rattle.reply_framing.specs.declared.pull.Stage.TheVariants.{Pulling, Broken}
 use Rattle.reply_framing.specs.Body.{wire, body_bytes, rule_in}
 use Rattle.reply_framing.specs.Framed.{pending, IsClear}
-use Rattle.reply_framing.specs.Pull.{TakesOne, content_of, lent, rest_of, asks_left, later_by, rule_by, steps_by, stage_of, last_by}
+use Rattle.reply_framing.specs.Pull.{TakesOne, content_of, lent, rest_of, asks_left, later_by, rule_by, sure_by, steps_by, stage_of, last_by}
 use Rattle.reply_framing.proofs.AppendLemmas.{keep_none}
 use Rattle.reply_framing.proofs.BodyLemmas.{body_more, rule_more, body_stops, rule_stops, body_end, rule_end}
 
@@ -68,7 +68,7 @@ module _ {B : Type 0} (content : B → Content) (taken : B → List ℕ) where
           bytes = new_bytes ∙ sym old_bytes;
           rule = ap (λ k. rule_in form k new.pieces new.raises) left_is ∙ ap (rule_in form (left_behind left (length piece)) new.pieces) t.raises
               ∙ sym (ap (λ w. rule_in form left w old.raises) t.pieces ∙ rule_more form left piece new.pieces old.raises sent fits);
-          sure = t.sure;
+          sure = ap (sure_by form) t.sure;
           form = refl;
           raises = t.raises;
           next = inr (piece, t.pieces, left_is, ([], ap (λ w. w ++ body_bytes form left' new.pieces new.raises) (sym bytes_are)));
@@ -96,7 +96,7 @@ module _ {B : Type 0} (content : B → Content) (taken : B → List ℕ) where
         record {
           bytes = new_bytes ∙ sym old_bytes;
           rule = ap Some rule_is ∙ sym (ap (λ w. rule_in form left w old.raises) t.pieces ∙ rule_stops form left piece new.pieces old.raises sent over);
-          sure = t.sure;
+          sure = ap (sure_by form) t.sure;
           form = refl;
           raises = t.raises;
           next = inr (piece, t.pieces, nothing_left left (length piece) over, (whole, sym (ap (λ w. whole ++ w) new_bytes ∙ append-nil whole)));
@@ -138,7 +138,7 @@ module _ {B : Type 0} (content : B → Content) (taken : B → List ℕ) where
           bytes = new_bytes ∙ sym old_bytes;
           rule = end_ruled rule (rule_in form left new.pieces new.raises)
               ∙ sym (ap (λ w. rule_in form left w old.raises) e.none ∙ ap (rule_in form left []) e.raises ∙ rule_end form left raised sent);
-          sure = ap (λ (c : Content). c.sure) e.same;
+          sure = ap (λ (c : Content). sure_by form c.sure) e.same;
           form = refl;
           raises = ap (λ (c : Content). c.raises) e.same;
           next = inl (ap (λ (c : Content). c.pieces) e.same, refl);

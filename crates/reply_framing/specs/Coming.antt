@@ -11,7 +11,7 @@ pub record Rest : Type 0 where
   pub bytes : List ℕ
   -- the rule that the body breaks behind them, none where it ends well
   pub rule : Option BodyRule
-  -- asking the body for a piece never wants memory
+  -- asking for the rest of the reply never wants memory: its body never does, or none is sent
   pub sure : Bool
   -- how the pieces are framed
   pub form : Form

@@ -6,7 +6,7 @@ use Rattle.rack_types.specs.declared.rules.BodyRule.{BodyRule}
 use Rattle.rack_types.specs.Body.{Content, TakesPiece, Ends}
 use Rattle.rack_types.specs.BodyRules.{left_behind, end_rule}
 use Rattle.reply_framing.specs.declared.types.Form.{Form}
-use Rattle.reply_framing.specs.declared.types.Form.TheVariants.{Bare}
+use Rattle.reply_framing.specs.declared.types.Form.TheVariants.{Bare, Stated, Known, Chunked, Closing}
 use Rattle.reply_framing.specs.declared.pull.Asked.{Asked}
 use Rattle.reply_framing.specs.declared.pull.Asked.TheVariants.{Piece, End}
 use Rattle.reply_framing.specs.declared.pull.Pull.{Pull}
@@ -64,6 +64,14 @@ abbrev pub stage_of : Option BodyRule → Stage
 stage_of None = Ended
 stage_of (Some rule) = Broken rule
 
+-- asking for what is to come never wants memory: the body never does, or it isn't sent and so is never asked
+abbrev pub sure_by : Form → Bool → Bool
+sure_by Bare sure = true
+sure_by Stated sure = sure
+sure_by Known sure = sure
+sure_by Chunked sure = sure
+sure_by Closing sure = sure
+
 -- what stands behind the last piece, where no rule was broken
 abbrev pub last_by : Option BodyRule → Form → List ℕ
 last_by None form = last_bytes form
@@ -86,7 +94,7 @@ module _ {B : Type 0} (content : B → Content) (taken : B → List ℕ) where
   rest_of p = record {
     bytes = pending p.framed (lent p.body) ++ later_by p.stage (later p);
     rule = rule_by p.stage (rule_in p.form p.watch (content_of p.body).pieces (content_of p.body).raises);
-    sure = (content_of p.body).sure;
+    sure = sure_by p.form (content_of p.body).sure;
     form = p.form;
     left = p.watch;
     waiting = (content_of p.body).pieces;

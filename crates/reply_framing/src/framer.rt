@@ -3,6 +3,7 @@ ghost use Rattle.std.specs.Prelude.{◌≡◌, ◌↔◌, [], false, true, IfOk,
 ghost use Rattle.rack_types.specs.declared.rules.Set.TheVariants.{Server};
 ghost use Rattle.rack_types.specs.Answer.{told};
 ghost use Rattle.rack_types.specs.AnswerRules.{broken_rule};
+ghost use Rattle.reply_framing.specs.declared.types.Form.TheVariants.{Bare};
 ghost use Rattle.reply_framing.specs.Fills.{Fills, after_then};
 ghost use Rattle.reply_framing.specs.Owes.{StandsFor, AsksNothingBy, is_sure};
 ghost use Rattle.reply_framing.specs.Reply.{reply};
@@ -57,6 +58,7 @@ impl<B: Body, H: Drop> Framer<B, H> {
         ensures stands { IfOk result (λ f. StandsFor f (reply ask env.now.pairs (told B.content answer) last)) }
         ensures asked { IfOk result (λ f. AsksNothingBy (broken_rule Server env.now.pairs (told B.content answer)) ask (told B.content answer) f.rest) }
         ensures sure { IfOk result (λ f. IsTrue (is_sure (told B.content answer)) → f.rest.sure ≡ true) }
+        ensures bare { IfOk result (λ f. f.rest.form ≡ Bare → f.rest.sure ≡ true) }
     {
         match answer {
             Answer::Reply {
@@ -91,8 +93,8 @@ impl<B: Body, H> Framer<B, H> {
     ///
     /// `Full` comes exactly where the ring is full and bytes remain, `Done` exactly where the whole
     /// reply was appended, and `Broke` exactly where the body broke a rule and all before the break was
-    /// appended. It takes no memory: want of memory comes only of a body that may want it, and the
-    /// framer can go on behind it.
+    /// appended. It takes no memory: want of memory comes only of a body that may want it and that is
+    /// sent, and the framer can go on behind it.
     pub fn fill(&mut self, ring: &mut HeapCircularBuffer<u8>) -> Result<Filled, NoMemory>
         ensures fills { Fills self.old.rest result self.new.rest ring.old ring.new }
         ensures after { self.new.after ≡ after_then result self.old.after }

@@ -6,7 +6,7 @@ ghost use Rattle.reply_framing.specs.Body.{body_bytes, rule_in};
 ghost use Rattle.reply_framing.specs.Coming.{Appends};
 ghost use Rattle.reply_framing.specs.Framed.{pending, IsAllOrFull, IsClear};
 ghost use Rattle.reply_framing.specs.Fills.{Fills};
-ghost use Rattle.reply_framing.specs.Pull.{IsIn, EndsSo, Takes, AsksTo, rest_of, lent, content_of};
+ghost use Rattle.reply_framing.specs.Pull.{IsIn, EndsSo, Takes, AsksTo, rest_of, lent, content_of, sure_by};
 ghost use Rattle.reply_framing.specs.PullOrder.{AskedNothing};
 
 use crate::framed::Framed;
@@ -49,7 +49,7 @@ impl<B: Body> Pull<B> {
         ensures bytes { (rest_of B.content B.taken result).bytes ≡ lead.items ++ body_bytes form promised (B.content body).pieces (B.content body).raises }
         ensures rule { (rest_of B.content B.taken result).rule ≡ rule_in form promised (B.content body).pieces (B.content body).raises }
         ensures asked { AskedNothing (rest_of B.content B.taken result) form promised (B.content body).pieces (B.content body).raises }
-        ensures sure { (rest_of B.content B.taken result).sure ≡ (B.content body).sure }
+        ensures sure { (rest_of B.content B.taken result).sure ≡ sure_by form (B.content body).sure }
     {
         match form {
             Form::Bare => Pull::alone(lead, promised, Some(body)),
@@ -70,7 +70,7 @@ impl<B: Body> Pull<B> {
         ensures bytes { (rest_of B.content B.taken result).bytes ≡ lead.items }
         ensures rule { (rest_of B.content B.taken result).rule ≡ None }
         ensures asked { AskedNothing (rest_of B.content B.taken result) form.Bare promised (content_of B.content B.taken body).pieces (content_of B.content B.taken body).raises }
-        ensures sure { (rest_of B.content B.taken result).sure ≡ (content_of B.content B.taken body).sure }
+        ensures sure { (rest_of B.content B.taken result).sure ≡ true }
     {
         Pull {
             framed: Framed::new(lead),

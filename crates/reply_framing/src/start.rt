@@ -3,6 +3,7 @@ ghost use Rattle.std.specs.Prelude.{◌≡◌, [], false, true, IfOk, None};
 ghost use Rattle.reply_framing.specs.Form.{promise, form_of};
 ghost use Rattle.reply_framing.specs.Framer.{broken_after};
 ghost use Rattle.reply_framing.specs.Owes.{StandsFor};
+ghost use Rattle.reply_framing.specs.Pull.{sure_by};
 ghost use Rattle.reply_framing.specs.PullOrder.{AskedNothing};
 ghost use Rattle.reply_framing.specs.Reply.{body_reply, partial_reply, broken_reply, taken_reply};
 
@@ -25,7 +26,7 @@ pub(crate) fn with_body<B: Body, H: Drop>(
 ) -> Result<Framer<B, H>, NoMemory>
     ensures stands { IfOk result (λ f. StandsFor f (body_reply ask status headers.now (B.content body) last)) }
     ensures asked { IfOk result (λ f. AskedNothing f.rest (form_of ask status headers.now (B.content body).known) (promise headers.now) (B.content body).pieces (B.content body).raises) }
-    ensures sure { IfOk result (λ f. f.rest.sure ≡ (B.content body).sure) }
+    ensures sure { IfOk result (λ f. f.rest.sure ≡ sure_by (form_of ask status headers.now (B.content body).known) (B.content body).sure) }
 {
     let promised = promise(headers);
     let known = body.known_length();
@@ -60,7 +61,7 @@ pub(crate) fn partial<B: Body, H: Drop>(
 ) -> Result<Framer<B, H>, NoMemory>
     ensures stands { IfOk result (λ f. StandsFor f (partial_reply status headers.now hijacker)) }
     ensures asked { IfOk result (λ f. AskedNothing f.rest Form.Bare None (B.content body).pieces (B.content body).raises) }
-    ensures sure { IfOk result (λ f. f.rest.sure ≡ (B.content body).sure) }
+    ensures sure { IfOk result (λ f. f.rest.sure ≡ true) }
 {
     match write_partial_head(alloc, status, headers) {
         Ok(lead) => Ok(Framer {

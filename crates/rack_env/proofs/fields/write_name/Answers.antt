@@ -1,13 +1,12 @@
-use Rattle.std.proofs.Common.{◌++◌, List, ℕ, ap, ◌∙◌, codes}
-use Rattle.rack_env.specs.Fields.{name_byte}
-use Rattle.std.proofs.Common.{map}
-use Rattle.rack_env.proofs.RaiseLemmas.{written}
+use Rattle.std.proofs.Common.{◌≤◌, ◌+◌, length, arith}
+use Rattle.std.proofs.lemmas.Grind.{common_steps}
+use Rattle.rack_env.proofs.RaiseLemmas.{named}
 use Rattle.rack_env.proofs.fields.write_name.Goals as goal
+use Rattle.rack_env.proofs.fields.write_name.Goals.{then-len-end+in_ok-resize, else-len-end}
 
-pub returns : goal.returns
-returns c =
-    let last = c.extend_from_slice-2.new.self in
-    written last.items c.raise.new.name _ c.args.field.now last.len last.ok.0
-    (c.raise.ensures ∙ ap (map name_byte) c.as_mut_slice.ensures.value)
-    (c.in_ok-extend_from_slice-2.ensures.items
-    ∙ ap (λ (xs : List ℕ). xs ++ c.args.field.now) (c.in_ok-extend_from_slice.ensures.items ∙ ap (λ (xs : List ℕ). xs ++ codes "HTTP_") c.clear.ensures.items))
+pub returns-clause-name : goal.returns-clause-name
+returns-clause-name c =
+    let long : 5 + length c.args.field.now ≤ c.if-len-end.room.len = elim c.if-len-end.branch [ then-len-end+in_ok-resize w ↦ grind (arith, common_steps) | else-len-end w ↦ grind (arith, common_steps) ] in
+    let within : length c.args.field.now ≤ length c.write_raised.new.place = grind (arith, common_steps) in
+    named c.copy_from_slice.new.self c.write_raised.new.place _ _ c.args.field.now (length c.args.field.now) c.if-len-end.room.len
+    c.copy_from_slice.ensures.after c.write_raised.ensures.raised within long

@@ -1,4 +1,4 @@
-use Rattle.std.proofs.Common.{◌≡◌, ◌+◌, ◌==◌, None, refl, sym, ap}
+use Rattle.std.proofs.Common.{◌≡◌, ◌+◌, ◌==◌, None, refl, sym, ap, subst, ◌∙◌}
 use Rattle.rack_types.specs.Request.{Parts}
 use Rattle.rack_env.specs.Environment.{env_pairs}
 use Rattle.reply_framing.specs.Reply.{WholeReply}
@@ -10,12 +10,28 @@ use Rattle.conn_core.specs.declared.place.At.{At}
 use Rattle.conn_core.specs.declared.place.At.TheVariants as at
 use Rattle.conn_core.specs.Holds.{kept}
 use Rattle.conn_core.specs.Place.{state_at}
+use Rattle.conn_core.specs.Rests.{RestsAt}
 use Rattle.conn_core.specs.Shown.{replied_at, why_at}
-use Rattle.conn_core.proofs.BeginLemmas.{with_run, answered, unanswered, asked_ring, hands_hold}
+use Rattle.conn_core.proofs.BeginLemmas.{with_run, answered, unanswered, asked_ring, asked_few, begins_rest, hands_hold}
 use Rattle.conn_core.proofs.PlaceLemmas.{stands_place}
 use Rattle.conn_core.proofs.RetellLemmas.{retold}
 use Rattle.conn_core.proofs.ToldLemmas.{run_began}
 use Rattle.conn_core.proofs.inside.Inside.answer.Goals as goal
+
+pub invariant_of-self : goal.invariant_of-self
+invariant_of-self g c =
+    let V : Voice g.row.H.Denot = record { says = g.H.Hijack.says; ends = g.H.Hijack.ends } in
+    let p = c.args.self.now in
+    record {
+      room = c.hand_on-at.ensures.room ∙ p.room;
+      rests = subst (λ (a : At g.row.B.Denot g.row.H.Denot). RestsAt a c.prepare.new.intake c.hand_on-at.new.held c.hand_on-at.new.ring.items (p.calls + 1))
+          (sym c.put.ensures)
+          (begins_rest V c.run-at.result c.hand_on-at.result c.in-Ok.ask c.prepare.new.env.pairs
+          (g.R.Runner.answer c.args.runner.now c.prepare.new.env.pairs c.prepare.new.env.input.bytes) (p.calls == 9999) p.calls c.prepare.new.intake
+          p.held c.hand_on-at.new.held p.ring.items c.hand_on-at.new.ring.items c.run-at.ensures.begins c.hand_on-at.ensures.hands c.in-Ok.ensures.whole
+          (sym (is_last_none p.calls)) (asked_few p.at p.intake p.held p.ring.items p.calls c.requires.at p.rests)
+          (asked_ring p.at p.intake p.held p.ring.items p.calls c.requires.at p.rests));
+    }
 
 pub returns-in-Ok-clause-holds : goal.returns-in-Ok-clause-holds
 returns-in-Ok-clause-holds g c = λ T s told h.

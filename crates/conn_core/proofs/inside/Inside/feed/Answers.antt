@@ -5,7 +5,7 @@ use Rattle.conn_core.specs.declared.state.State.TheVariants as state
 use Rattle.conn_core.specs.Place.{state_at}
 use Rattle.conn_core.specs.Shown.{shows}
 use Rattle.conn_core.proofs.FedLemmas.{AnswersSo, Went, feeding_end, went_same, unread, fed_so}
-use Rattle.conn_core.proofs.MoveLemmas.{may_state}
+use Rattle.conn_core.proofs.MoveLemmas.{may_state, owes_rightly}
 use Rattle.conn_core.proofs.ToldLemmas.{hears_shown}
 use Rattle.conn_core.proofs.inside.Inside.feed.Goals as goal
 use Rattle.conn_core.proofs.inside.Inside.feed.Goals.{in-Reading, in-Ready}
@@ -26,7 +26,7 @@ returns-in-NotYet-clause-feeds g c =
           (inr (held, w.hear-read.ensures.reads), w.hear-read.ensures.once)
     ] in
     feeding_end c.match-state_at.self.at (shows c.args.self.now) (shows c.match-state_at.self) (g.L.Link.seen c.args.link.now)
-    (g.L.Link.seen c.match-state_at.link) c.match-state_at.read next.Waiting refl went
+    (g.L.Link.seen c.match-state_at.link) c.match-state_at.read next.Waiting refl (owes_rightly c.match-state_at.self) went
     (subst (λ (x : LinkRead). AnswersSo x next.Waiting c.match-state_at.self.at) (sym c.in-NotYet.is) refl)
 
 pub returns-in-Bytes-clause-feeds : goal.returns-in-Bytes-clause-feeds
@@ -45,7 +45,7 @@ returns-in-Bytes-clause-feeds g c =
           (inr (held, w.hear-read.ensures.reads), w.hear-read.ensures.once)
     ] in
     feeding_end c.match-state_at.self.at (shows c.args.self.now) (shows c.match-state_at.self) (g.L.Link.seen c.args.link.now)
-    (g.L.Link.seen c.match-state_at.link) c.match-state_at.read c.fed.result refl went
+    (g.L.Link.seen c.match-state_at.link) c.match-state_at.read c.fed.result refl (owes_rightly c.match-state_at.self) went
     (fed_so c.match-state_at.read c.fed.result c.match-state_at.self.at c.in-Bytes.is c.fed.ensures)
 
 pub returns-in-Failed-clause-feeds : goal.returns-in-Failed-clause-feeds
@@ -64,5 +64,5 @@ returns-in-Failed-clause-feeds g c =
           (inr (held, w.hear-read.ensures.reads), w.hear-read.ensures.once)
     ] in
     feeding_end c.match-state_at.self.at (shows c.args.self.now) (shows c.match-state_at.self) (g.L.Link.seen c.args.link.now)
-    (g.L.Link.seen c.match-state_at.link) c.match-state_at.read next.Over refl went
+    (g.L.Link.seen c.match-state_at.link) c.match-state_at.read next.Over refl (owes_rightly c.match-state_at.self) went
     (subst (λ (x : LinkRead). AnswersSo x next.Over c.match-state_at.self.at) (sym c.in-Failed.is) refl)

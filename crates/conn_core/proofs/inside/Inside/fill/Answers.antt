@@ -44,7 +44,7 @@ returns-clause-fills g c =
     let p = c.args.self.now in
     let fills : FillsTo p.at x c.fill-at.result y =
     subst (λ (a : At g.row.B.Denot g.row.H.Denot). FillsTo a x c.fill-at.result y) c.replace.ensures.value c.fill-at.ensures in
-    fills_shown p.held p.peer p.local p.lives.items p.calls p.taken c.is_saying-goes_on.result p.at c.put.new.at x y
+    fills_shown p.held p.peer p.local p.lives.items p.calls p.taken c.is_saying-goes_on.result p.at c.put.new.at x y p.room
     (subst (λ (b : At g.row.B.Denot g.row.H.Denot). FillsTo p.at x b y) (sym c.put.ensures) fills) c.requires
     (subst (λ (b : At g.row.B.Denot g.row.H.Denot). IsTrue c.is_saying-goes_on.result ↔ IsSaying b) (sym c.put.ensures) c.is_saying-goes_on.ensures)
 

@@ -5,6 +5,7 @@ use Rattle.conn_core.specs.declared.place.At.{At}
 use Rattle.conn_core.specs.declared.place.At.TheVariants as at
 use Rattle.conn_core.specs.Holds.{kept}
 use Rattle.conn_core.specs.Steps.{HandsOn, EndsOn}
+use Rattle.conn_core.proofs.MoveLemmas.{held_same}
 use Rattle.conn_core.proofs.HijackLemmas.{heard_at, end_at, nothing_at, failure_at, hearing_rests}
 use Rattle.conn_core.proofs.PlaceLemmas.{stands_place}
 use Rattle.rack_outside.specs.declared.link.LinkRead.TheVariants as read
@@ -12,7 +13,7 @@ use Rattle.talk_core.specs.Counts.{counted_by}
 use Rattle.conn_core.specs.declared.state.State.TheVariants as state
 use Rattle.conn_core.specs.Calls.{IsOfFeed}
 use Rattle.conn_core.specs.Place.{state_at}
-use Rattle.conn_core.specs.Shown.{replied_at, why_at}
+use Rattle.conn_core.specs.Shown.{shows, replied_at, why_at}
 use Rattle.conn_core.proofs.ShownLemmas.{counted_sum, moved_by_read, nothing_came, read_once}
 use Rattle.conn_core.proofs.ToldLemmas.{heard_shown, ended_shown, hears_shown, hears_replied}
 use Rattle.conn_core.proofs.inside.Inside.hear.Goals as goal
@@ -124,7 +125,8 @@ pub returns-in-NotYet-clause-once : goal.returns-in-NotYet-clause-once
 returns-in-NotYet-clause-once g c =
     let is = hears_shown c.args.self.now.at c.requires in
     read_once read.NotYet state.Hijacked _ _ _ _ c.in-NotYet.ensures.offers c.in-NotYet.ensures.keeps refl refl refl refl refl refl is.0
-    (is.0, is.1, refl)
+    (held_same (shows c.args.self.now) c.read-read.new.self (c.in-NotYet.ensures.reads.0
+    ∙ sym (hearing_rests c.args.self.now.at c.args.self.now.intake c.args.self.now.held c.args.self.now.ring.items c.args.self.now.calls c.requires c.args.self.now.rests).0))
 
 pub returns-in-End-clause-reads : goal.returns-in-End-clause-reads
 returns-in-End-clause-reads g c =

@@ -11,8 +11,8 @@ use Rattle.conn_core.specs.Holds.{kept}
 use Rattle.conn_core.specs.Inner.{IsFed}
 use Rattle.conn_core.specs.Place.{state_at}
 use Rattle.conn_core.specs.Moves.{FedTo}
-use Rattle.conn_core.specs.Shown.{replied_at, owed_at, why_at}
-use Rattle.conn_core.proofs.MoveLemmas.{fed_to, unowed_fed}
+use Rattle.conn_core.specs.Shown.{shows, replied_at, owed_at, why_at}
+use Rattle.conn_core.proofs.MoveLemmas.{fed_to, unowed_fed, held_same, reading_held}
 use Rattle.conn_core.proofs.PlaceLemmas.{stands_place}
 use Rattle.conn_core.proofs.ReadLemmas.{took_in, read_end, read_failed}
 use Rattle.conn_core.proofs.ShownLemmas.{counted_sum, moved_by_read, nothing_came, FedShown, fed_shown, read_once}
@@ -146,7 +146,8 @@ pub returns-in-NotYet-clause-once : goal.returns-in-NotYet-clause-once
 returns-in-NotYet-clause-once g c =
     let reading = ap (λ (a : At g.row.B.Denot g.row.H.Denot). state_at a) c.requires in
     read_once read.NotYet state.Reading _ _ _ _ c.in-NotYet.ensures.offers c.in-NotYet.ensures.keeps refl refl refl refl refl refl reading
-    (reading, ap (λ (a : At g.row.B.Denot g.row.H.Denot). why_at a) c.requires, refl)
+    (held_same (shows c.args.self.now) c.read-read.new.self
+    (c.in-NotYet.ensures.reads.0 ∙ sym (reading_held c.args.self.now c.requires)))
 
 pub returns-in-End-clause-once : goal.returns-in-End-clause-once
 returns-in-End-clause-once g c =
