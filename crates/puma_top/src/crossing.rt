@@ -75,46 +75,58 @@ fn taken(alloc: Global, text: &[u8], size: usize) -> Result<Vec<u8>, NoMemory> {
     Ok(told)
 }
 
+// Three requests one behind the other.
+const THREE: &str =
+    "\r\nPOST / HTTP/1.1\r\nHost: a\r\nTransfer-Encoding: chunked\r\n\r\n5\r\nhello\r\n0\r\nT: 1\r\n\r\nPUT / HTTP/1.1\r\nHost: a\r\nContent-Length: 2\r\n\r\nokGET / HTTP/1.1\r\nHost: a\r\n\r\n";
+
+// A text, the size of its pieces, and what is told of it.
+const TAKEN: &[(&str, usize, &str)] = &[
+    (
+        THREE,
+        1,
+        "POST chunked hello 1\nPUT ok 1\nGET  1\nnot begun",
+    ),
+    (
+        THREE,
+        2,
+        "POST chunked hello 1\nPUT ok 2\nGET  1\nnot begun",
+    ),
+    (
+        THREE,
+        7,
+        "POST chunked hello 2\nPUT ok 6\nGET  6\nnot begun",
+    ),
+    (
+        THREE,
+        1000,
+        "POST chunked hello 79\nPUT ok 48\nGET  27\nnot begun",
+    ),
+    ("\r\n\n", 1, "not begun"),
+    ("\r\n\n\r", 1, "begun"),
+    ("\r\n\n\r\n", 1, "not begun"),
+    ("\r\n\nG", 1, "begun"),
+    ("GET / HTTP/1.1\r\n\r\n", 7, "refused"),
+];
+
 #[test]
 fn takes_requests_one_behind_the_other(rt: HostRuntime) -> Result<(), Fail> {
-    let text: &[u8] =
-        b"\r\nPOST / HTTP/1.1\r\nHost: a\r\nTransfer-Encoding: chunked\r\n\r\n5\r\nhello\r\n0\r\nT: 1\r\n\r\nPUT / HTTP/1.1\r\nHost: a\r\nContent-Length: 2\r\n\r\nokGET / HTTP/1.1\r\nHost: a\r\n\r\n";
-    for (size, said) in [
-        (1, "POST chunked hello 1\nPUT ok 1\nGET  1\nnot begun"),
-        (2, "POST chunked hello 1\nPUT ok 2\nGET  1\nnot begun"),
-        (7, "POST chunked hello 2\nPUT ok 6\nGET  6\nnot begun"),
-        (1000, "POST chunked hello 79\nPUT ok 48\nGET  27\nnot begun"),
-    ] {
-        let told = taken(rt.alloc(), text, size)?;
-        assert_eq!(rt; told.as_slice(), said.as_bytes(), "{size}");
-    }
-    for (text, begun) in [
-        (b"\r\n\n".as_slice(), b"not begun".as_slice()),
-        (b"\r\n\n\r".as_slice(), b"begun".as_slice()),
-        (b"\r\n\n\r\n".as_slice(), b"not begun".as_slice()),
-        (b"\r\n\nG".as_slice(), b"begun".as_slice()),
-    ] {
-        assert_eq!(rt; taken(rt.alloc(), text, 1)?.as_slice(), begun);
+    for (text, size, told) in TAKEN {
+        assert!(rt; taken(rt.alloc(), text.as_bytes(), *size)?.as_slice() == told.as_bytes());
     }
     Ok(())
 }
 
+// What stands in front of a text that a fresh intake is fed.
+fn standing_in(alloc: Global, text: &str) -> Result<Feed, NoMemory> {
+    what_stands(Intake::new(alloc, Limits::stock())?, text.as_bytes())
+}
+
 #[test]
 fn tells_what_stands(rt: HostRuntime) -> Result<(), Fail> {
-    for (text, stands) in [
-        (b"GET / HTTP/1.1\r\nHost: a\r\n".as_slice(), Feed::More),
-        (
-            b"GET / HTTP/1.1\r\nHost: a\r\n\r\n".as_slice(),
-            Feed::Whole(27),
-        ),
-        (
-            b"GET / HTTP/1.1\r\n\r\n".as_slice(),
-            Feed::Refused(Fault::F(6)),
-        ),
-    ] {
-        let intake = Intake::new(rt.alloc(), Limits::stock())?;
-        assert_eq!(rt; what_stands(intake, text)?, stands);
-    }
+    let alloc = rt.alloc();
+    assert!(rt; standing_in(alloc, "GET / HTTP/1.1\r\nHost: a\r\n")? == Feed::More);
+    assert!(rt; standing_in(alloc, "GET / HTTP/1.1\r\nHost: a\r\n\r\n")? == Feed::Whole(27));
+    assert!(rt; standing_in(alloc, "GET / HTTP/1.1\r\n\r\n")? == Feed::Refused(Fault::F(6)));
     Ok(())
 }
 
@@ -171,29 +183,32 @@ fn lines_of(alloc: Global, env: &mut Env, text: &[u8], https: bool) -> Result<Ve
     written(alloc, env)
 }
 
+// A request, whether it comes by https, and its lines.
+const PAIRS: &[(&str, bool, &str)] = &[
+    (
+        "GET /p?q=1 HTTP/1.1\r\nHost: h:81\r\nX-A: 1\r\nx-a: 2\r\nX_B: 3\r\n\r\n",
+        false,
+        PLAIN,
+    ),
+    (
+        "POST http://[::1]:080/%41 HTTP/1.1\r\nAccept: a\r\nhost: h\r\ncontent-TYPE: text/plain\r\ntransfer-encoding: chunked\r\naccept: b\r\n\r\n7\r\ntwelve \r\n5\r\nbytes\r\n0\r\n\r\n",
+        true,
+        ABSOLUTE,
+    ),
+    (
+        "POST http://h:/* HTTP/1.0\r\nContent-Length: 0002\r\nX:\r\n\r\nab",
+        true,
+        OLD,
+    ),
+    ("GET / HTTP/1.1\r\nHost:\r\n\r\n", false, LOCAL),
+];
+
 #[test]
 fn lists_the_pairs(rt: HostRuntime) -> Result<(), Fail> {
     let mut env = Env::new(rt.alloc(), Input::new(Bytes::new(Vec::new(rt.alloc()))));
-    for (text, https, want) in [
-        (
-            b"GET /p?q=1 HTTP/1.1\r\nHost: h:81\r\nX-A: 1\r\nx-a: 2\r\nX_B: 3\r\n\r\n".as_slice(),
-            false,
-            PLAIN,
-        ),
-        (
-            b"POST http://[::1]:080/%41 HTTP/1.1\r\nAccept: a\r\nhost: h\r\ncontent-TYPE: text/plain\r\ntransfer-encoding: chunked\r\naccept: b\r\n\r\n7\r\ntwelve \r\n5\r\nbytes\r\n0\r\n\r\n".as_slice(),
-            true,
-            ABSOLUTE,
-        ),
-        (
-            b"POST http://h:/* HTTP/1.0\r\nContent-Length: 0002\r\nX:\r\n\r\nab".as_slice(),
-            true,
-            OLD,
-        ),
-        (b"GET / HTTP/1.1\r\nHost:\r\n\r\n".as_slice(), false, LOCAL),
-    ] {
-        let lines = lines_of(rt.alloc(), &mut env, text, https)?;
-        assert_eq!(rt; lines.as_slice(), want.as_bytes());
+    for (text, https, lines) in PAIRS {
+        let found = lines_of(rt.alloc(), &mut env, text.as_bytes(), *https)?;
+        assert!(rt; found.as_slice() == lines.as_bytes());
     }
     Ok(())
 }
@@ -250,6 +265,22 @@ fn taken_of_chunks(alloc: Global, chunks: &[u8]) -> Result<Option<usize>, NoMemo
     Ok(intake.request().map(|request| request.body().len()))
 }
 
+// The framer of that answer, to a request of HTTP/1.1.
+fn long_framer(alloc: Global) -> Result<Framer<Plain, Infallible>, NoMemory> {
+    let ask = Ask {
+        head: false,
+        version: Version::Http11,
+        persists: true,
+    };
+    let env = Env::new(alloc, Input::new(Bytes::new(Vec::new(alloc))));
+    Framer::start(alloc, ask, &env, long_answer(alloc)?, false)
+}
+
+// The first sixteen chunks.
+fn chunks_of(first: &[u8]) -> &[u8] {
+    first.get(47..1_048_767).unwrap_or(b"")
+}
+
 // Each chunk has its size line in front and its line end behind.
 fn are_framed(chunks: &[u8]) -> bool {
     for chunk in chunks.chunks_exact(FRAMED) {
@@ -263,20 +294,12 @@ fn are_framed(chunks: &[u8]) -> bool {
 #[test]
 fn long_body_is_framed_and_read_again(rt: HostRuntime) -> Result<(), Fail> {
     let alloc = rt.alloc();
-    let ask = Ask {
-        head: false,
-        version: Version::Http11,
-        persists: true,
-    };
-    let env = Env::new(alloc, Input::new(Bytes::new(Vec::new(alloc))));
-    let framer = Framer::start(alloc, ask, &env, long_answer(alloc)?, false)?;
-    let (sent, first, told) = frame(alloc, framer)?;
-    assert_eq!(rt; told, Filled::Done);
-    assert_eq!(rt; sent, 67_118_132);
-    assert_eq!(rt; first.get(..47), Some(HEAD));
-    let chunks = first.get(47..1_048_767).unwrap_or(b"");
-    assert!(rt; are_framed(chunks));
-    assert_eq!(rt; taken_of_chunks(alloc, chunks)?, Some(1_048_576));
+    let (sent, first, told) = frame(alloc, long_framer(alloc)?)?;
+    assert!(rt; told == Filled::Done);
+    assert!(rt; sent == 67_118_132);
+    assert!(rt; first.starts_with(HEAD));
+    assert!(rt; are_framed(chunks_of(&first)));
+    assert!(rt; taken_of_chunks(alloc, chunks_of(&first))? == Some(1_048_576));
     Ok(())
 }
 
