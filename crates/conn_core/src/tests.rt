@@ -1,12 +1,12 @@
 // A connection over a link in memory: each call once.
-ghost use Rattle.std.specs.Prelude.{◌≤◌, ◌-◌, ◌^◌, [], ◌∷◌, None, true, false};
+ghost use Rattle.std.specs.Prelude.{◌≡◌, ◌≤◌, ◌-◌, ◌^◌, [], ◌∷◌, None, true, false};
 ghost use Rattle.rack_types.specs.declared.answer.Answer.TheVariants.{Reply};
 ghost use Rattle.rack_types.specs.declared.body.Kind.TheVariants.{Enumerable};
 ghost use Rattle.rack_types.specs.Plain.{plain_content};
 
 use crate::{Conn, Ended, Next, State, Why};
 use hijack_core::Never;
-use rack_outside::MemLink;
+use rack_outside::{MemLink, MemWatcher, Touch};
 use rack_types::{Answer, Bytes, Env, Headers, Kind, Limits, Local, NoMemory, Peer, Plain, Runner};
 use std::alloc::Global;
 
@@ -42,6 +42,20 @@ impl Runner<Plain, Never> for Echo {
 }
 
 type MemConn = Conn<MemLink, Plain, Never>;
+
+// Tells how many bytes the link took.
+#[derive(Drop)]
+struct Look;
+
+impl Touch<MemLink> for Look {
+    type Said = usize;
+
+    ghost relates = { λ look before said after. after ≡ before };
+
+    fn touch(&mut self, link: &mut MemLink) -> usize {
+        link.sent().len()
+    }
+}
 
 fn opened(alloc: Global, text: &[u8]) -> Option<MemConn> {
     let mut link = MemLink::new(alloc, 3, Bytes::new(Vec::new(alloc)));
@@ -104,5 +118,74 @@ fn serves_two_requests(rt: HostRuntime) {
             }
         }
         None => assert!(rt; false),
+    }
+}
+
+// What its owner does, where it may.
+fn place(conn: &mut MemConn, phase: u32) -> bool {
+    let unread = conn.unread();
+    if unread {
+        conn.place(phase);
+    }
+    unread
+}
+
+fn let_go(conn: &mut MemConn) -> bool {
+    let unread = conn.unread();
+    if unread {
+        conn.end_unread(1);
+    }
+    unread
+}
+
+fn run_short(conn: &mut MemConn) -> bool {
+    match conn.state() {
+        State::Over => false,
+        State::Reading | State::Ready | State::Answering | State::Hijacked => {
+            conn.end_for_memory();
+            true
+        }
+    }
+}
+
+#[test]
+fn is_placed_and_ended_by_its_owner(rt: HostRuntime) {
+    let alloc = rt.alloc();
+    for why in [
+        Why::Unread { level: 1 },
+        Why::Halted { level: 2 },
+        Why::NoMemory,
+    ] {
+        match opened(alloc, b"GET / HTTP/1.1\r\n") {
+            Some(mut conn) => {
+                assert!(rt; place(&mut conn, 3));
+                assert_eq!(rt; conn.phase(), 3);
+                let done = match why {
+                    Why::Unread { .. } => let_go(&mut conn),
+                    Why::NoMemory => run_short(&mut conn),
+                    _ => {
+                        conn.halt(2);
+                        true
+                    }
+                };
+                assert!(rt; done && !conn.unread());
+                assert_eq!(rt; ended(conn).map(|end| end.why), Some(why));
+            }
+            None => assert!(rt; false),
+        }
+    }
+}
+
+#[test]
+fn its_link_is_lent_to_a_watcher(rt: HostRuntime) {
+    let alloc = rt.alloc();
+    match (opened(alloc, b""), MemWatcher::new(alloc)) {
+        (Some(mut conn), Ok(mut watcher)) => {
+            assert!(rt; conn.watch(&mut watcher, 5));
+            conn.forget(&mut watcher, 5);
+            assert_eq!(rt; conn.touch(&mut Look), 0);
+            assert!(rt; conn.unread());
+        }
+        _ => assert!(rt; false),
     }
 }
