@@ -1,11 +1,13 @@
 // A connection over a link in memory: each call once.
 ghost use Rattle.std.specs.Prelude.{◌≡◌, ◌≤◌, ◌-◌, ◌^◌, [], ◌∷◌, None, true, false};
-ghost use Rattle.rack_types.specs.declared.answer.Answer.TheVariants.{Reply};
+ghost use Rattle.hijack_core.specs.declared.stock.Stock.TheVariants.{Upper};
+ghost use Rattle.rack_outside.specs.Wire.{with_room};
+ghost use Rattle.rack_types.specs.declared.answer.Answer.TheVariants.{Reply, Taken};
 ghost use Rattle.rack_types.specs.declared.body.Kind.TheVariants.{Enumerable};
 ghost use Rattle.rack_types.specs.Plain.{plain_content};
 
 use crate::{Conn, Ended, Next, State, Why};
-use hijack_core::Never;
+use hijack_core::{Hijack, Never, Stock, StockHijack};
 use rack_outside::{MemLink, MemWatcher, Touch};
 use rack_types::{Answer, Bytes, Env, Headers, Kind, Limits, Local, NoMemory, Peer, Plain, Runner};
 use std::alloc::Global;
@@ -43,6 +45,47 @@ impl Runner<Plain, Never> for Echo {
 
 type MemConn = Conn<MemLink, Plain, Never>;
 
+// An application that hands each connection to a stock hijacker.
+#[derive(Drop)]
+struct Hands {
+    alloc: Global,
+    runs: u64,
+}
+
+impl Runner<Plain, StockHijack> for Hands {
+    ghost runs = { λ r. r.runs };
+
+    ghost answer = { λ r ps input. Taken Upper };
+
+    ghost steady = { true };
+
+    ghost answered = { λ r. None };
+
+    ghost asked = { λ r. None };
+
+    fn run(&mut self, env: &mut Env) -> Result<Answer<Plain, StockHijack>, NoMemory> {
+        let _env = env;
+        self.runs += 1;
+        Ok(Answer::Taken(Stock::new(self.alloc, true)))
+    }
+}
+
+// From now on the link takes so many bytes, and then has to wait.
+#[derive(Drop)]
+struct Room {
+    bytes: u64,
+}
+
+impl Touch<MemLink> for Room {
+    type Said = ();
+
+    ghost relates = { λ room before said after. after ≡ record before { pipe = with_room room.bytes before.pipe } };
+
+    fn touch(&mut self, link: &mut MemLink) {
+        link.room(self.bytes);
+    }
+}
+
 // Tells how many bytes the link took.
 #[derive(Drop)]
 struct Look;
@@ -57,7 +100,7 @@ impl Touch<MemLink> for Look {
     }
 }
 
-fn opened(alloc: Global, text: &[u8]) -> Option<MemConn> {
+fn opened<H: Hijack + Drop>(alloc: Global, text: &[u8]) -> Option<Conn<MemLink, Plain, H>> {
     let mut link = MemLink::new(alloc, 3, Bytes::new(Vec::new(alloc)));
     if link.give(text).is_err() {
         return None;
@@ -96,7 +139,7 @@ fn ended(conn: MemConn) -> Option<Ended<MemLink>> {
 fn serves_two_requests(rt: HostRuntime) {
     let alloc = rt.alloc();
     let asked = b"POST / HTTP/1.1\r\nHost: a\r\nContent-Length: 3\r\n\r\nabcGET / HTTP/1.0\r\n\r\n";
-    match opened(alloc, asked) {
+    match opened::<Never>(alloc, asked) {
         Some(mut conn) => {
             let mut runner = Echo { alloc, runs: 0 };
             assert_eq!(rt; conn.number(), 7);
@@ -156,7 +199,7 @@ fn is_placed_and_ended_by_its_owner(rt: HostRuntime) {
         Why::Halted { level: 2 },
         Why::NoMemory,
     ] {
-        match opened(alloc, b"GET / HTTP/1.1\r\n") {
+        match opened::<Never>(alloc, b"GET / HTTP/1.1\r\n") {
             Some(mut conn) => {
                 assert!(rt; place(&mut conn, 3));
                 assert_eq!(rt; conn.phase(), 3);
@@ -179,7 +222,7 @@ fn is_placed_and_ended_by_its_owner(rt: HostRuntime) {
 #[test]
 fn its_link_is_lent_to_a_watcher(rt: HostRuntime) {
     let alloc = rt.alloc();
-    match (opened(alloc, b""), MemWatcher::new(alloc)) {
+    match (opened::<Never>(alloc, b""), MemWatcher::new(alloc)) {
         (Some(mut conn), Ok(mut watcher)) => {
             assert!(rt; conn.watch(&mut watcher, 5));
             conn.forget(&mut watcher, 5);
@@ -187,5 +230,51 @@ fn its_link_is_lent_to_a_watcher(rt: HostRuntime) {
             assert!(rt; conn.unread());
         }
         _ => assert!(rt; false),
+    }
+}
+
+// One call on a connection that a hijacker takes over.
+fn goes_on_hijacked(conn: &mut Conn<MemLink, Plain, StockHijack>, runner: &mut Hands)
+    requires { runner.old.runs ≤ 2 ^ 64 - 11 }
+{
+    match conn.state() {
+        State::Reading => {
+            conn.feed(0);
+        }
+        State::Ready => {
+            conn.turn(runner, 0);
+        }
+        State::Answering | State::Hijacked => hears(conn),
+        State::Over => {}
+    }
+}
+
+// It is written where it is to be, and else read.
+fn hears(conn: &mut Conn<MemLink, Plain, StockHijack>) {
+    if conn.wants_write() {
+        conn.flush(0);
+    } else if conn.state() == State::Hijacked {
+        conn.feed(0);
+    }
+}
+
+#[test]
+fn a_hijacker_speaks_over_a_link_with_little_room(rt: HostRuntime) {
+    let alloc = rt.alloc();
+    let mut runner = Hands { alloc, runs: 0 };
+    for bytes in [0, 1, 10] {
+        match opened::<StockHijack>(alloc, b"GET / HTTP/1.1\r\nHost: a\r\n\r\nabcdefghijkl\x04m") {
+            Some(mut conn) => {
+                for _ in 0..16 {
+                    conn.touch(&mut Room { bytes });
+                    runner.runs = 0;
+                    goes_on_hijacked(&mut conn, &mut runner);
+                }
+                let sent: &[u8] = if bytes == 0 { b"" } else { b"ABCDEFGHIJKL" };
+                assert_eq!(rt; conn.link().sent(), sent, "{bytes}");
+                assert_eq!(rt; conn.state() == State::Over, bytes > 0);
+            }
+            None => assert!(rt; false),
+        }
     }
 }
