@@ -1,5 +1,6 @@
 // The pairs of the body's type and length.
-ghost use Rattle.std.specs.Prelude.{◌≡◌, ◌++◌, ℕ, List, [], None, OnOk, codes, length, take};
+ghost use Rattle.std.specs.Prelude.{◌≡◌, ◌++◌, ℕ, List, [], None, OnOk, codes, false, length, take};
+ghost use Rattle.rack_text.specs.Case as spec;
 ghost use Rattle.rack_types.specs.Env.{get_pair, with_pairs};
 ghost use Rattle.rack_types.specs.Request.{with_body};
 ghost use Rattle.rack_types.specs.Fields.{values_of};
@@ -26,20 +27,31 @@ pub(crate) fn put_content(env: &mut Env, request: &Request, body: usize) -> Resu
     put_values(env, request, from, b"content-length", b"CONTENT_LENGTH")
 }
 
-// The place of the first field that tells the body's type or length, or the number of fields where none does.
+// A place before which no field tells the body's type or length.
 fn first_content(request: &Request) -> usize
     ensures types { values_of (codes "content-type") (take result request.now.fields) ≡ [] }
     ensures lengths { values_of (codes "content-length") (take result request.now.fields) ≡ [] }
 {
     for i in 0..request.field_count() {
-        let name = request.field_name(i);
-        if same_ignoring_case(name, b"content-type")
-            || same_ignoring_case(name, b"content-length")
-        {
+        if may_be_content(request.field_name(i)) {
             return i;
         }
     }
     request.field_count()
+}
+
+// Whether the name may be that of the body's type or length, by what is quickly seen: how long it is, and how it
+// begins.
+fn may_be_content(name: &[u8]) -> bool
+    ensures types { result ≡ false → spec.same_ignoring_case name.now (codes "content-type") ≡ false }
+    ensures lengths { result ≡ false → spec.same_ignoring_case name.now (codes "content-length") ≡ false }
+{
+    match name {
+        [first, ..] => {
+            (name.len() == 12 || name.len() == 14) && first.to_ascii_lowercase() == b'c'
+        }
+        [] => false,
+    }
 }
 
 // Puts the values of all fields with this name behind what is there, joined. They are looked for from this place
