@@ -1,9 +1,9 @@
 -- Pairs whose names get one value more.
-use Rattle.std.proofs.Common.{◌≡◌, ℕ, Bool, true, false, cond, List, [], ◌∷◌, ◌++◌, Option, Some, None, is_some, refl, sym, ap, ◌∙◌, bytes_eq, codes}
+use Rattle.std.proofs.Common.{◌≡◌, ℕ, Bool, true, false, cond, List, [], ◌∷◌, ◌++◌, Some, None, refl, sym, ap, ◌∙◌, bytes_eq}
 use Rattle.std.proofs.lemmas.Slice.Eq.{bytes_eq-Decides}
 use Rattle.std.proofs.lemmas.List.{append-nil}
 use Rattle.std.specs.List.{fold}
-use Rattle.rack_types.specs.Env.{Environment, Pairs, get_pair, set_pair, extend_pair, with_pairs}
+use Rattle.rack_types.specs.Env.{Pairs, get_pair, set_pair}
 use Rattle.rack_env.specs.Environment.{pair_if}
 use Rattle.rack_env.specs.Fields.{join_pair, joined, with_more}
 use Rattle.rack_env.specs.Placing.{join_values}

@@ -1,7 +1,6 @@
 -- A list that is mapped from its front, one after the other.
-use Rattle.std.proofs.Common.{append_assoc, ◌≡◌, ℕ, zero, suc, ◌+◌, ◌<◌, ◌≤◌, List, [], ◌∷◌, ◌++◌, drop, get_or, length, map, set, take, refl, ap, ◌∙◌, arith, codes}
-use Rattle.std.proofs.lemmas.List.{take-append-le, take-take}
-use Rattle.rack_env.specs.Fields.{http_name, name_byte}
+use Rattle.std.proofs.Common.{◌≡◌, ℕ, zero, suc, ◌+◌, ◌<◌, ◌≤◌, List, [], ◌∷◌, ◌++◌, drop, get_or, length, map, set, take, refl, ap, ◌∙◌, arith}
+use Rattle.rack_env.specs.Fields.{name_byte}
 
 -- the first i are mapped
 abbrev mapped : List ℕ → ℕ → List ℕ
@@ -30,14 +29,3 @@ all_mapped xs ys i so_far past = so_far ∙ all ys i past
     all [] (suc k) past = refl
     all (z ∷ zs) zero past = absurd (omega (arith, past))
     all (z ∷ zs) (suc k) past = ap (λ (ws : List ℕ). name_byte z ∷ ws) (all zs k (omega (arith, past)))
-
--- what stands at the front of a list of which the first len are read: the prefix, and behind it a place that begins
--- with a raised field
-pub named : (prefix place rest behind field : List ℕ) (n len : ℕ) → prefix ≡ codes "HTTP_" → take n place ≡ map name_byte field → n ≤ length place → 5 + n ≤ len
-    → take (5 + n) (take len (prefix ++ (place ++ rest) ++ behind)) ≡ http_name field
-named prefix place rest behind field n len is raised within long =
-    let counted : 5 + n ≡ suc (suc (suc (suc (suc n)))) = omega arith in
-    take-take (5 + n) len (prefix ++ (place ++ rest) ++ behind) long
-    ∙ ap (λ (xs : List ℕ). take (5 + n) (xs ++ (place ++ rest) ++ behind)) is
-    ∙ ap (λ (k : ℕ). take k (codes "HTTP_" ++ (place ++ rest) ++ behind)) counted
-    ∙ ap (λ (xs : List ℕ). codes "HTTP_" ++ xs) (ap (take n) (append_assoc place rest behind) ∙ take-append-le n place (rest ++ behind) within ∙ raised)

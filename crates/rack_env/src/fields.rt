@@ -1,5 +1,5 @@
 // The pairs that come of a request's fields.
-ghost use Rattle.std.specs.Prelude.{◌≡◌, ◌≤◌, ◌+◌, OnOk, length, map, option_copied, take, vec_len};
+ghost use Rattle.std.specs.Prelude.{◌≡◌, ◌≤◌, ◌+◌, ◌^◌, OnOk, codes, length, map, option_copied, take, vec_len};
 ghost use Rattle.std.specs.List.{fold, list_any};
 ghost use Rattle.rack_types.specs.Env.{with_pairs};
 ghost use Rattle.rack_env.specs.Fields as spec;
@@ -24,6 +24,7 @@ pub(crate) fn put_fields(env: &mut Env, request: &Request) -> Result<(), NoMemor
 {
     let authority = request.authority();
     let mut room = env.take_room();
+    begin_names(&mut room)?;
     for i in 0..request.field_count() {
         put_field(
             env,
@@ -40,8 +41,18 @@ pub(crate) fn put_fields(env: &mut Env, request: &Request) -> Result<(), NoMemor
     }
 }
 
+// Makes the room begin as each name does.
+fn begin_names(room: &mut Vec<u8>) -> Result<(), NoMemory>
+    ensures { OnOk result (take 5 room.new.items ≡ codes "HTTP_") }
+{
+    room.resize(PREFIX + SPARE, 0)?;
+    let (prefix, _) = room.as_mut_slice().split_at_mut(PREFIX);
+    prefix.copy_from_slice(b"HTTP_");
+    Ok(())
+}
+
 // Puts one field behind what is there, or lets the value of its name go on. The name is put together
-// in this room.
+// in this room, which begins as each name does.
 fn put_field(
     env: &mut Env,
     room: &mut Vec<u8>,
@@ -49,7 +60,9 @@ fn put_field(
     field: &[u8],
     value: &[u8],
 ) -> Result<(), NoMemory>
-    ensures { OnOk result (env.new ≡ with_pairs env.old
+    requires { take 5 room.old.items ≡ codes "HTTP_" }
+    ensures begins { OnOk result (take 5 room.new.items ≡ codes "HTTP_") }
+    ensures placed { OnOk result (env.new ≡ with_pairs env.old
         (place_field (option_copied authority.entry) env.old.pairs (field.now, value.now))) }
 {
     if is_left_out(field) {
@@ -80,20 +93,32 @@ fn has_underscore(name: &[u8]) -> bool
     name.contains(&b'_')
 }
 
-// Writes the name that a field has in the environment to the front of the room. Behind the prefix it raises
-// whole groups of eight bytes, which is faster than the last bytes one by one, so the room goes on behind the name.
+// Writes the name that a field has in the environment to the front of the room, where its prefix stands. Behind
+// that it raises whole groups of eight bytes, which is faster than the last bytes one by one, so the room goes on
+// behind the name.
 fn write_name(room: &mut Vec<u8>, field: &[u8]) -> Result<(), NoMemory>
+    requires { take 5 room.old.items ≡ codes "HTTP_" }
+    ensures begins { OnOk result (take 5 room.new.items ≡ codes "HTTP_") }
     ensures room { OnOk result (5 + length field.now ≤ vec_len room.new) }
     ensures name { OnOk result (take (5 + length field.now) room.new.items ≡ spec.http_name field.now) }
 {
     let groups = field.len() / 8 + 1;
-    let end = PREFIX + groups * 8;
+    lengthen(room, PREFIX + groups * 8)?;
+    let (_, place) = room.as_mut_slice().split_at_mut(PREFIX);
+    write_raised(&mut place[..groups * 8], field);
+    Ok(())
+}
+
+// Makes the room at least so long. What it begins with stays.
+fn lengthen(room: &mut Vec<u8>, end: usize) -> Result<(), NoMemory>
+    requires begins { take 5 room.old.items ≡ codes "HTTP_" }
+    requires small { end ≤ 2 ^ 63 + 13 }
+    ensures begins { OnOk result (take 5 room.new.items ≡ codes "HTTP_") }
+    ensures long { OnOk result (end ≤ vec_len room.new) }
+{
     if room.len() < end {
         room.resize(end + SPARE, 0)?;
     }
-    let (prefix, place) = room.as_mut_slice().split_at_mut(PREFIX);
-    prefix.copy_from_slice(b"HTTP_");
-    write_raised(&mut place[..groups * 8], field);
     Ok(())
 }
 

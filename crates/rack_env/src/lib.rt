@@ -24,8 +24,8 @@ use std::alloc::Global;
 /// the input has the environment of the whole one. It breaks no rule of an environment where the
 /// local name is not empty.
 ///
-/// It takes memory for its table, once for each value that is not empty, and once for each name that
-/// comes of a field.
+/// It takes memory for its table, for room in which names are put together, once for each value that is
+/// not empty, and once for each name that comes of a field.
 pub fn env_of(
     alloc: Global,
     request: &Request,

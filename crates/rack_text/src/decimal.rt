@@ -4,6 +4,9 @@ ghost use Rattle.std.specs.Char.{is_ascii_digit, digit_value};
 ghost use Rattle.rack_text.specs.Decimal as spec;
 ghost use Rattle.rack_text.specs.Decimal.{IsDecimal, decimal_value, decimal_number};
 
+// Below this a number and one digit more fit into 64 bits, where a step is many times shorter.
+const SHORT: u128 = 1 << 60;
+
 /// The number that decimal digits write, most significant first, with zeros in front or without.
 ///
 /// It is `None` exactly where the text is empty, holds a byte outside `0` to `9`, or writes a
@@ -39,6 +42,10 @@ fn with_digit(number: u128, byte: u8) -> Option<u128>
     if !byte.is_ascii_digit() {
         return None;
     }
-    let digit = u128::from(byte - b'0');
+    let digit = byte - b'0';
+    if number < SHORT {
+        return Some(u128::from(number as u64 * 10 + u64::from(digit)));
+    }
+    let digit = u128::from(digit);
     number.checked_mul(10)?.checked_add(digit)
 }

@@ -8,8 +8,8 @@ returns-then-chunked c = λ bytes long.
     IfOk-equal c.set_static.result _ _ _ c.set_static.ensures.set
     (chunks_put c.args.env.now c.put_values.new.env c.args.request.now bytes c.args.body _ c.in_ok-put_values.ensures c.requires.no_length (sym c.chunked.ensures ∙ c.if-chunked.true) long (c.as_bytes.ensures.value ∙ c.format.ensures.text))
 
-pub put_values-requires-2 : goal.put_values-requires-2
-put_values-requires-2 c = length_absent c.args.env.now c.put_values.new.env c.args.request.now c.in_ok-put_values.ensures c.requires.no_length
+pub put_values-requires-2-clause-absent : goal.put_values-requires-2-clause-absent
+put_values-requires-2-clause-absent c = length_absent c.args.env.now c.put_values.new.env c.args.request.now c.in_ok-put_values.ensures c.requires.no_length
 
 pub returns : goal.returns
 returns c = λ bytes long.

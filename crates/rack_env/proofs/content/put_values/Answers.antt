@@ -26,4 +26,4 @@ returns c =
     let past : length c.args.request.now.fields ≤ c.loop-i.i = omega (arith, c.loop-i-test.false, c.field_count-i-end.ensures) in
     c.loop-i.invariant
     ∙ ap (λ fs. with_pairs c.args.env.now (join_values c.args.name.now c.args.env.now.pairs (values_of c.args.field.now fs))) (take_all c.loop-i.i c.args.request.now.fields past)
-    ∙ ap (with_pairs c.args.env.now) (join_values-new c.args.name.now c.args.env.now.pairs (values_of c.args.field.now c.args.request.now.fields) c.requires)
+    ∙ ap (with_pairs c.args.env.now) (join_values-new c.args.name.now c.args.env.now.pairs (values_of c.args.field.now c.args.request.now.fields) c.requires.absent)

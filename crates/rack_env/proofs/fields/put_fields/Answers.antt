@@ -7,5 +7,8 @@ pub loop-i-preserved : goal.loop-i-preserved
 loop-i-preserved c =
     let at : IsFieldAt c.args.request.now.fields c.loop-i.i c.field_name.result.now c.field_value.result.now =
     record { name_is = c.field_name.ensures; value_is = c.field_value.ensures } in
-    field_placed c.args.request.now.authority (option_copied c.authority-authority.result) c.args.env.now c.loop-i.env c.put_field.new.env c.args.request.now.fields c.loop-i.i _ _
-    c.loop-i.invariant c.in_ok-put_field.ensures c.authority-authority.ensures at
+    record {
+      placed = field_placed c.args.request.now.authority (option_copied c.authority-authority.result) c.args.env.now c.loop-i.env c.put_field.new.env c.args.request.now.fields c.loop-i.i _ _
+          c.loop-i.invariant.placed c.in_ok-put_field.ensures.placed c.authority-authority.ensures at;
+      begins = c.in_ok-put_field.ensures.begins;
+    }
