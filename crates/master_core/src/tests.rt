@@ -7,216 +7,225 @@ use crate::Reply::{Busy, Refused, Taken};
 use crate::{Act, Load, Loader, Master, NoMemory, Order, Reply, Slot};
 use std::test::Fail;
 
-#[derive(Clone, Copy, Debug)]
-enum Event {
-    Order(Order),
-    Step(Option<u8>),
+// What is done, and what is told of it: an order, a step with no slot gone, or one with this slot gone.
+#[derive(Clone, Copy)]
+enum Row {
+    Ordered(Order, Reply),
+    Stepped(Act),
+    Gone(u8, Act),
 }
 
-// What is told of an event; Nothing where the slot that would be gone isn't draining.
-#[derive(Clone, Copy, Debug, PartialEq, Eq)]
-enum Said {
-    Reply(Reply),
-    Act(Act),
-    Nothing,
-}
+use Row::{Gone, Ordered, Stepped};
 
-fn ordered(order: Order, reply: Reply) -> (Event, Said) {
-    (Event::Order(order), Said::Reply(reply))
-}
-
-fn stepped(act: Act) -> (Event, Said) {
-    (Event::Step(None), Said::Act(act))
-}
-
-fn gone(slot: u8, act: Act) -> (Event, Said) {
-    (Event::Step(Some(slot)), Said::Act(act))
-}
-
-fn next(master: &mut Master, slots: u8, event: Event) -> Said
+// Whether the master tells this. A slot can be gone only where it is draining.
+fn tells(master: &mut Master, slots: u8, row: Row) -> bool
     requires { length master.old.slots ≡ slots }
     ensures { length master.new.slots ≡ slots }
 {
-    match event {
-        Event::Order(order) => Said::Reply(master.order(order)),
-        Event::Step(None) => Said::Act(master.step(None)),
-        Event::Step(Some(i)) => {
+    match row {
+        Ordered(order, reply) => master.order(order) == reply,
+        Stepped(act) => master.step(None) == act,
+        Gone(i, act) => {
             if i < slots
                 && let Slot::Draining(_) = master.slot(i)
             {
-                Said::Act(master.step(Some(i)))
+                master.step(Some(i)) == act
             } else {
-                Said::Nothing
+                false
             }
         }
     }
 }
 
 // The first place of the run at which the master says something else.
-fn differs(mut master: Master, slots: u8, run: &[(Event, Said)]) -> Option<usize>
+fn differs(mut master: Master, slots: u8, run: &[Row]) -> Option<usize>
     requires { length master.slots ≡ slots }
 {
-    for (i, (event, wanted)) in run.iter().enumerate() {
-        if next(&mut master, slots, *event) != *wanted {
+    for (i, row) in run.iter().enumerate() {
+        if !tells(&mut master, slots, *row) {
             return Some(i);
         }
     }
     None
 }
 
+const BAD: Load = Load::Bad { line: 3, rule: 10 };
+
+const REPLACED_AND_STOPPED: [Row; 19] = [
+    Stepped(Rest),
+    Ordered(Phased(Load::Read), Taken(1)),
+    Ordered(
+        Phased(Load::Read),
+        Busy {
+            phase: 0,
+            target: 1,
+        },
+    ),
+    Stepped(Drain(0)),
+    Stepped(Rest),
+    Ordered(
+        Phased(BAD),
+        Busy {
+            phase: 0,
+            target: 1,
+        },
+    ),
+    Gone(0, Start(0, 1)),
+    Stepped(Rest),
+    Ordered(Phased(BAD), Refused(BAD)),
+    Ordered(Phased(Load::Absent), Refused(Load::Absent)),
+    Ordered(Phased(Load::Read), Taken(2)),
+    Stepped(Drain(0)),
+    Gone(0, Start(0, 2)),
+    Ordered(Stop, Taken(2)),
+    Ordered(
+        Phased(Load::Read),
+        Busy {
+            phase: 2,
+            target: 2,
+        },
+    ),
+    Stepped(Drain(0)),
+    Stepped(Rest),
+    Gone(0, Finish),
+    Stepped(Finish),
+];
+
 #[test]
 fn one_slot_is_replaced_and_stopped(rt: HostRuntime) -> Result<(), Fail> {
-    let bad = Load::Bad { line: 3, rule: 10 };
-    let run = [
-        stepped(Rest),
-        ordered(Phased(Load::Read), Taken(1)),
-        ordered(
-            Phased(Load::Read),
-            Busy {
-                phase: 0,
-                target: 1,
-            },
-        ),
-        stepped(Drain(0)),
-        stepped(Rest),
-        ordered(
-            Phased(bad),
-            Busy {
-                phase: 0,
-                target: 1,
-            },
-        ),
-        gone(0, Start(0, 1)),
-        stepped(Rest),
-        ordered(Phased(bad), Refused(bad)),
-        ordered(Phased(Load::Absent), Refused(Load::Absent)),
-        ordered(Phased(Load::Read), Taken(2)),
-        stepped(Drain(0)),
-        gone(0, Start(0, 2)),
-        ordered(Stop, Taken(2)),
-        ordered(
-            Phased(Load::Read),
-            Busy {
-                phase: 2,
-                target: 2,
-            },
-        ),
-        stepped(Drain(0)),
-        stepped(Rest),
-        gone(0, Finish),
-        stepped(Finish),
-    ];
-    assert_eq!(rt; differs(Master::new(rt.alloc(), 1)?, 1, &run), None);
-    Ok(())
-}
-
-#[test]
-fn two_slots_are_ended_in_the_middle(rt: HostRuntime) -> Result<(), Fail> {
-    let stopped = [
-        ordered(Phased(Load::Read), Taken(1)),
-        stepped(Drain(0)),
-        ordered(Stop, Taken(1)),
-        ordered(
-            Phased(Load::Read),
-            Busy {
-                phase: 0,
-                target: 1,
-            },
-        ),
-        stepped(Drain(1)),
-        gone(1, Rest),
-        ordered(Halt, Taken(1)),
-        ordered(
-            Phased(Load::Long),
-            Busy {
-                phase: 0,
-                target: 1,
-            },
-        ),
-        stepped(HaltAll),
-        ordered(Halt, Taken(1)),
-        stepped(Rest),
-        gone(0, Finish),
-    ];
-    assert_eq!(rt; differs(Master::new(rt.alloc(), 2)?, 2, &stopped), None);
-    let halted = [
-        ordered(Phased(Load::Read), Taken(1)),
-        stepped(Drain(0)),
-        gone(0, Start(0, 1)),
-        stepped(Drain(1)),
-        ordered(Halt, Taken(1)),
-        ordered(Stop, Taken(1)),
-        gone(1, HaltAll),
-        stepped(Rest),
-        gone(0, Finish),
-        ordered(
-            Phased(Load::Read),
-            Busy {
-                phase: 0,
-                target: 1,
-            },
-        ),
-    ];
-    assert_eq!(rt; differs(Master::new(rt.alloc(), 2)?, 2, &halted), None);
-    Ok(())
-}
-
-#[test]
-fn sixteen_slots_are_replaced_in_their_order(rt: HostRuntime) -> Result<(), Fail> {
-    let mut run = Vec::new(rt.alloc());
-    run.push(ordered(Phased(Load::Read), Taken(1)))?;
-    for i in 0..16u8 {
-        run.push(ordered(
-            Phased(Load::Read),
-            Busy {
-                phase: 0,
-                target: 1,
-            },
-        ))?;
-        run.push(stepped(Drain(i)))?;
-        run.push(gone(i, Start(i, 1)))?;
-    }
-    run.push(ordered(Phased(Load::Read), Taken(2)))?;
-    run.push(ordered(Halt, Taken(2)))?;
-    run.push(stepped(HaltAll))?;
-    for i in 0..15u8 {
-        run.push(gone(i, Rest))?;
-    }
-    run.push(gone(15, Finish))?;
     assert_eq!(rt;
-        differs(Master::new(rt.alloc(), 16)?, 16, run.as_slice()),
+        differs(Master::new(rt.alloc(), 1)?, 1, &REPLACED_AND_STOPPED),
         None
     );
     Ok(())
 }
 
+const ENDED_BY_STOP: [Row; 12] = [
+    Ordered(Phased(Load::Read), Taken(1)),
+    Stepped(Drain(0)),
+    Ordered(Stop, Taken(1)),
+    Ordered(
+        Phased(Load::Read),
+        Busy {
+            phase: 0,
+            target: 1,
+        },
+    ),
+    Stepped(Drain(1)),
+    Gone(1, Rest),
+    Ordered(Halt, Taken(1)),
+    Ordered(
+        Phased(Load::Long),
+        Busy {
+            phase: 0,
+            target: 1,
+        },
+    ),
+    Stepped(HaltAll),
+    Ordered(Halt, Taken(1)),
+    Stepped(Rest),
+    Gone(0, Finish),
+];
+
+const ENDED_BY_HALT: [Row; 10] = [
+    Ordered(Phased(Load::Read), Taken(1)),
+    Stepped(Drain(0)),
+    Gone(0, Start(0, 1)),
+    Stepped(Drain(1)),
+    Ordered(Halt, Taken(1)),
+    Ordered(Stop, Taken(1)),
+    Gone(1, HaltAll),
+    Stepped(Rest),
+    Gone(0, Finish),
+    Ordered(
+        Phased(Load::Read),
+        Busy {
+            phase: 0,
+            target: 1,
+        },
+    ),
+];
+
+#[test]
+fn two_slots_are_ended_in_the_middle(rt: HostRuntime) -> Result<(), Fail> {
+    assert_eq!(rt;
+        differs(Master::new(rt.alloc(), 2)?, 2, &ENDED_BY_STOP),
+        None
+    );
+    assert_eq!(rt;
+        differs(Master::new(rt.alloc(), 2)?, 2, &ENDED_BY_HALT),
+        None
+    );
+    Ok(())
+}
+
+fn put_replacements(run: &mut Vec<Row>) -> Result<(), Fail> {
+    let busy = Busy {
+        phase: 0,
+        target: 1,
+    };
+    for i in 0..16u8 {
+        run.push(Ordered(Phased(Load::Read), busy))?;
+        run.push(Stepped(Drain(i)))?;
+        run.push(Gone(i, Start(i, 1)))?;
+    }
+    Ok(())
+}
+
+fn put_ends(run: &mut Vec<Row>) -> Result<(), Fail> {
+    run.push(Ordered(Phased(Load::Read), Taken(2)))?;
+    run.push(Ordered(Halt, Taken(2)))?;
+    run.push(Stepped(HaltAll))?;
+    for i in 0..15u8 {
+        run.push(Gone(i, Rest))?;
+    }
+    run.push(Gone(15, Finish))?;
+    Ok(())
+}
+
+fn put_all(run: &mut Vec<Row>) -> Result<(), Fail> {
+    run.push(Ordered(Phased(Load::Read), Taken(1)))?;
+    put_replacements(run)?;
+    put_ends(run)
+}
+
+#[test]
+fn sixteen_slots_are_replaced_in_their_order(rt: HostRuntime) -> Result<(), Fail> {
+    let mut run = Vec::new(rt.alloc());
+    put_all(&mut run)?;
+    let master = Master::new(rt.alloc(), 16)?;
+    assert_eq!(rt; differs(master, 16, run.as_slice()), None);
+    Ok(())
+}
+
+const TO_THE_GREATEST: [Row; 9] = [
+    Ordered(Phased(Load::Read), Taken(4_294_967_295)),
+    Stepped(Drain(0)),
+    Gone(0, Start(0, 4_294_967_295)),
+    Ordered(
+        Phased(Load::Read),
+        Busy {
+            phase: 4_294_967_294,
+            target: 4_294_967_295,
+        },
+    ),
+    Stepped(Drain(1)),
+    Gone(1, Start(1, 4_294_967_295)),
+    Ordered(
+        Phased(Load::Absent),
+        Busy {
+            phase: 4_294_967_295,
+            target: 4_294_967_295,
+        },
+    ),
+    Ordered(Stop, Taken(4_294_967_295)),
+    Stepped(Drain(0)),
+];
+
 #[test]
 fn no_phase_follows_the_greatest(rt: HostRuntime) -> Result<(), Fail> {
-    let run = [
-        ordered(Phased(Load::Read), Taken(4_294_967_295)),
-        stepped(Drain(0)),
-        gone(0, Start(0, 4_294_967_295)),
-        ordered(
-            Phased(Load::Read),
-            Busy {
-                phase: 4_294_967_294,
-                target: 4_294_967_295,
-            },
-        ),
-        stepped(Drain(1)),
-        gone(1, Start(1, 4_294_967_295)),
-        ordered(
-            Phased(Load::Absent),
-            Busy {
-                phase: 4_294_967_295,
-                target: 4_294_967_295,
-            },
-        ),
-        ordered(Stop, Taken(4_294_967_295)),
-        stepped(Drain(0)),
-    ];
     let master = Master::in_phase(rt.alloc(), 2, 4_294_967_294)?;
-    assert_eq!(rt; differs(master, 2, &run), None);
+    assert_eq!(rt; differs(master, 2, &TO_THE_GREATEST), None);
     Ok(())
 }
 

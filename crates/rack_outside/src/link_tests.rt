@@ -33,28 +33,63 @@ fn tell<L: Link>(link: &mut L, said: &mut Vec<u8>) -> Result<(), NoMemory> {
     Ok(())
 }
 
-fn use_sure_link(alloc: Global) -> Result<Vec<u8>, NoMemory> {
+// What is done with a link.
+enum Act {
+    Hear,
+    Tell,
+    Give,
+    Room(u64),
+    End,
+    FailRead,
+    FailWrite,
+}
+
+use Act::{End, FailRead, FailWrite, Give, Hear, Room, Tell};
+
+const SURE_ACTS: [Act; 10] = [Hear, Give, Hear, Tell, Room(2), Tell, Tell, End, Hear, Hear];
+
+fn act_sure(link: &mut SureLink, act: &Act, said: &mut Vec<u8>) -> Result<(), NoMemory> {
+    match act {
+        Hear => hear(link, said)?,
+        Tell => tell(link, said)?,
+        Give => link.give(b"abcdef")?,
+        Room(n) => link.room(*n),
+        End => link.end(),
+        FailRead | FailWrite => {}
+    }
+    Ok(())
+}
+
+fn put(said: &mut Vec<u8>, text: &[u8]) -> Result<(), NoMemory> {
+    said.extend_from_slice(text)
+}
+
+// What was given and sent, with a bar between them.
+fn put_both(said: &mut Vec<u8>, given: &[u8], sent: &[u8]) -> Result<(), NoMemory> {
+    put(said, given)?;
+    put(said, b"|")?;
+    put(said, sent)
+}
+
+fn put_sure(link: &mut SureLink, acts: &[Act], said: &mut Vec<u8>) -> Result<(), NoMemory> {
+    for act in acts {
+        act_sure(link, act, said)?;
+    }
+    put_both(said, link.given(), link.sent())
+}
+
+fn use_sure_link(alloc: Global, acts: &[Act]) -> Result<Vec<u8>, NoMemory> {
     let mut said = Vec::new(alloc);
     let mut link = SureLink::new(alloc, 7);
-    hear(&mut link, &mut said)?;
-    link.give(b"abcdef")?;
-    hear(&mut link, &mut said)?;
-    tell(&mut link, &mut said)?;
-    link.room(2);
-    tell(&mut link, &mut said)?;
-    tell(&mut link, &mut said)?;
-    link.end();
-    hear(&mut link, &mut said)?;
-    hear(&mut link, &mut said)?;
-    said.extend_from_slice(link.given())?;
-    said.push(b'|')?;
-    said.extend_from_slice(link.sent())?;
-    Ok(said)
+    match put_sure(&mut link, acts, &mut said) {
+        Ok(()) => Ok(said),
+        Err(refused) => Err(refused),
+    }
 }
 
 #[test]
 fn a_sure_link_gives_and_takes_what_there_is_room_for(rt: HostRuntime) -> Result<(), Fail> {
-    let said = use_sure_link(rt.alloc())?;
+    let said = use_sure_link(rt.alloc(), &SURE_ACTS)?;
     assert_eq!(rt;
         said.as_slice(),
         b"wait|abcd|12345|12|wait|ef|end|abcdef|1234512".as_slice()
@@ -62,50 +97,104 @@ fn a_sure_link_gives_and_takes_what_there_is_room_for(rt: HostRuntime) -> Result
     Ok(())
 }
 
-fn use_mem_link(alloc: Global) -> Result<Vec<u8>, NoMemory> {
-    let mut said = Vec::new(alloc);
+const MEM_ACTS: [Act; 15] = [
+    Give,
+    Hear,
+    Tell,
+    Hear,
+    FailRead,
+    FailRead,
+    FailWrite,
+    Hear,
+    Hear,
+    Tell,
+    Room(6),
+    Tell,
+    Tell,
+    End,
+    Hear,
+];
+
+fn act_mem(link: &mut MemLink, act: &Act, said: &mut Vec<u8>) -> Result<(), NoMemory> {
+    match act {
+        Hear => hear(link, said)?,
+        Tell => tell(link, said)?,
+        Give => link.give(b"abcdef")?,
+        Room(n) => link.room(*n),
+        End => link.end(),
+        FailRead => link.fail_read(),
+        FailWrite => link.fail_write(),
+    }
+    Ok(())
+}
+
+fn put_mem(link: &mut MemLink, acts: &[Act], said: &mut Vec<u8>) -> Result<(), NoMemory> {
+    for act in acts {
+        act_mem(link, act, said)?;
+    }
+    put_both(said, link.given(), link.sent())
+}
+
+fn use_mem_link(alloc: Global, acts: &[Act]) -> Result<Vec<u8>, NoMemory> {
     let mut link = MemLink::new(alloc, 7, bytes(alloc, &[2, 3])?);
-    link.give(b"abcdef")?;
-    hear(&mut link, &mut said)?;
-    tell(&mut link, &mut said)?;
-    hear(&mut link, &mut said)?;
-    link.fail_read();
-    link.fail_read();
-    link.fail_write();
-    hear(&mut link, &mut said)?;
-    hear(&mut link, &mut said)?;
-    tell(&mut link, &mut said)?;
-    link.room(6);
-    tell(&mut link, &mut said)?;
-    tell(&mut link, &mut said)?;
-    link.end();
-    hear(&mut link, &mut said)?;
-    said.extend_from_slice(link.given())?;
-    said.push(b'|')?;
-    said.extend_from_slice(link.sent())?;
-    Ok(said)
+    let mut said = Vec::new(alloc);
+    match put_mem(&mut link, acts, &mut said) {
+        Ok(()) => Ok(said),
+        Err(refused) => Err(refused),
+    }
 }
 
 #[test]
 fn a_link_fails_where_it_was_told(rt: HostRuntime) -> Result<(), Fail> {
-    let said = use_mem_link(rt.alloc())?;
+    let said = use_mem_link(rt.alloc(), &MEM_ACTS)?;
     let wanted = b"abcd|failed|failed|failed|ef|failed|12345|1|end|abcdef|123451";
     assert_eq!(rt; said.as_slice(), wanted.as_slice());
     Ok(())
 }
 
-fn use_pair_link(alloc: Global) -> Result<Vec<u8>, NoMemory> {
+// Hears once, tells, and hears so often as four bytes need.
+fn hear_and_tell<L: Link>(link: &mut L, said: &mut Vec<u8>) -> Result<(), NoMemory> {
+    hear(link, said)?;
+    tell(link, said)?;
+    for _ in 0..3u8 {
+        hear(link, said)?;
+    }
+    Ok(())
+}
+
+fn hear_pair(
+    input: Bytes,
+    cuts: Bytes,
+    sink: &mut SureSink,
+    said: &mut Vec<u8>,
+) -> Result<(), NoMemory> {
+    let mut source = SureSource::new(input, cuts);
+    hear_and_tell(&mut PairLink::new(&mut source, sink), said)
+}
+
+fn put_pair(
+    input: Bytes,
+    cuts: Bytes,
+    sink: &mut SureSink,
+    said: &mut Vec<u8>,
+) -> Result<(), NoMemory> {
+    hear_pair(input, cuts, sink, said)?;
+    put(said, sink.written())
+}
+
+fn use_pair(alloc: Global, input: Bytes, cuts: Bytes) -> Result<Vec<u8>, NoMemory> {
     let mut said = Vec::new(alloc);
-    let mut source = SureSource::new(bytes(alloc, b"abcdef")?, bytes(alloc, &[1])?);
     let mut sink = SureSink::new(alloc);
-    let mut link = PairLink::new(&mut source, &mut sink);
-    hear(&mut link, &mut said)?;
-    tell(&mut link, &mut said)?;
-    hear(&mut link, &mut said)?;
-    hear(&mut link, &mut said)?;
-    hear(&mut link, &mut said)?;
-    said.extend_from_slice(sink.written())?;
-    Ok(said)
+    match put_pair(input, cuts, &mut sink, &mut said) {
+        Ok(()) => Ok(said),
+        Err(refused) => Err(refused),
+    }
+}
+
+fn use_pair_link(alloc: Global) -> Result<Vec<u8>, NoMemory> {
+    let input = bytes(alloc, b"abcdef")?;
+    let cuts = bytes(alloc, &[1])?;
+    use_pair(alloc, input, cuts)
 }
 
 #[test]

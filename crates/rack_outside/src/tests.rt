@@ -11,31 +11,52 @@ fn bytes(alloc: Global, text: &[u8]) -> Result<Bytes, NoMemory> {
     Ok(Bytes::new(text.to_vec(alloc)?))
 }
 
+fn put(said: &mut Vec<u8>, text: &[u8]) -> Result<(), NoMemory> {
+    said.extend_from_slice(text)
+}
+
 // Reads to the end, at most sixteen times.
-fn drain<S: Source>(alloc: Global, source: &mut S) -> Result<Vec<u8>, NoMemory> {
-    let mut said = Vec::new(alloc);
+fn put_all<S: Source>(source: &mut S, said: &mut Vec<u8>) -> Result<(), NoMemory> {
     for _ in 0..16u8 {
         let mut room = [0u8; 4];
         match source.read(&mut room) {
-            SourceRead::Bytes(n) => said.extend_from_slice(&room[..n])?,
+            SourceRead::Bytes(n) => put(said, &room[..n])?,
             SourceRead::End => break,
-            SourceRead::Failed => said.extend_from_slice(b"failed")?,
+            SourceRead::Failed => put(said, b"failed")?,
         }
-        said.push(b'|')?;
+        put(said, b"|")?;
     }
-    Ok(said)
+    Ok(())
+}
+
+fn drain<S: Source>(alloc: Global, source: &mut S) -> Result<Vec<u8>, NoMemory> {
+    let mut said = Vec::new(alloc);
+    match put_all(source, &mut said) {
+        Ok(()) => Ok(said),
+        Err(refused) => Err(refused),
+    }
+}
+
+fn sure_source(alloc: Global, input: Bytes) -> Result<SureSource, NoMemory> {
+    Ok(SureSource::new(input, bytes(alloc, &[0, 3, 2])?))
 }
 
 fn drain_sure(alloc: Global) -> Result<Vec<u8>, NoMemory> {
-    let mut source = SureSource::new(bytes(alloc, b"abcdefgh")?, bytes(alloc, &[0, 3, 2])?);
+    let mut source = sure_source(alloc, bytes(alloc, b"abcdefgh")?)?;
     drain(alloc, &mut source)
 }
 
+fn mem_source(alloc: Global, input: Bytes, cuts: Bytes) -> Result<MemSource, NoMemory> {
+    Ok(MemSource::new(input, cuts, bytes(alloc, &[2, 4])?))
+}
+
+fn cut_source(alloc: Global, input: Bytes) -> Result<MemSource, NoMemory> {
+    mem_source(alloc, input, bytes(alloc, &[0, 3])?)
+}
+
 fn drain_mem(alloc: Global) -> Result<Vec<u8>, NoMemory> {
-    let input = bytes(alloc, b"abcdefgh")?;
-    let cuts = bytes(alloc, &[0, 3])?;
-    let fails = bytes(alloc, &[2, 4])?;
-    drain(alloc, &mut MemSource::new(input, cuts, fails))
+    let mut source = cut_source(alloc, bytes(alloc, b"abcdefgh")?)?;
+    drain(alloc, &mut source)
 }
 
 #[test]
@@ -74,34 +95,65 @@ fn a_sink_fails_where_it_was_told(rt: HostRuntime) -> Result<(), Fail> {
     Ok(())
 }
 
+fn put_read(read: FileRead, said: &mut Vec<u8>) -> Result<(), NoMemory> {
+    match read {
+        FileRead::Text(text) => put(said, text.get())?,
+        FileRead::Absent => put(said, b"absent")?,
+        FileRead::Long => put(said, b"long")?,
+        FileRead::Failed => put(said, b"failed")?,
+    }
+    put(said, b"|")
+}
+
 fn look<F: Files>(
     files: &mut F,
     name: &str,
     limit: usize,
     said: &mut Vec<u8>,
 ) -> Result<(), NoMemory> {
-    match files.read(name, limit)? {
-        FileRead::Text(text) => said.extend_from_slice(text.get())?,
-        FileRead::Absent => said.extend_from_slice(b"absent")?,
-        FileRead::Long => said.extend_from_slice(b"long")?,
-        FileRead::Failed => said.extend_from_slice(b"failed")?,
+    put_read(files.read(name, limit)?, said)
+}
+
+// The texts that stand there, each with its name, and what is looked for, with its limit.
+const TEXTS: [(&str, &str); 3] = [("a", "one"), ("b", "two"), ("a", "three")];
+
+const LOOKS: [(&str, usize); 5] = [("a", 3), ("a", 4), ("b", 2), ("c", 9), ("a", 5)];
+
+fn add_file(alloc: Global, files: &mut MemFiles, name: &str, text: &str) -> Result<(), NoMemory> {
+    let text = bytes(alloc, text.as_bytes())?;
+    files.add(name, text)
+}
+
+fn add_files(alloc: Global, files: &mut MemFiles, texts: &[(&str, &str)]) -> Result<(), NoMemory> {
+    for (name, text) in texts {
+        add_file(alloc, files, name, text)?;
     }
-    said.push(b'|')?;
     Ok(())
+}
+
+fn look_at(
+    files: &mut MemFiles,
+    looks: &[(&str, usize)],
+    said: &mut Vec<u8>,
+) -> Result<(), NoMemory> {
+    for (name, limit) in looks {
+        look(files, name, *limit, said)?;
+    }
+    Ok(())
+}
+
+fn add_and_look(alloc: Global, files: &mut MemFiles, said: &mut Vec<u8>) -> Result<(), NoMemory> {
+    add_files(alloc, files, &TEXTS)?;
+    look_at(files, &LOOKS, said)
 }
 
 fn look_round(alloc: Global) -> Result<Vec<u8>, NoMemory> {
     let mut files = MemFiles::new(alloc);
-    files.add("a", bytes(alloc, b"one")?)?;
-    files.add("b", bytes(alloc, b"two")?)?;
-    files.add("a", bytes(alloc, b"three")?)?;
     let mut said = Vec::new(alloc);
-    look(&mut files, "a", 3, &mut said)?;
-    look(&mut files, "a", 4, &mut said)?;
-    look(&mut files, "b", 2, &mut said)?;
-    look(&mut files, "c", 9, &mut said)?;
-    look(&mut files, "a", 5, &mut said)?;
-    Ok(said)
+    match add_and_look(alloc, &mut files, &mut said) {
+        Ok(()) => Ok(said),
+        Err(refused) => Err(refused),
+    }
 }
 
 #[test]

@@ -9,6 +9,7 @@ use crate::{Line, Steps};
 use rack_types::{Answer, Body, Bytes, Endpoint, Env, Headers, Kind, NoMemory, Plain, Step};
 use std::alloc::Global;
 use std::cell::Cell;
+use std::mem;
 use std::rc::Rc;
 use stock_middleware::Ware;
 
@@ -105,42 +106,134 @@ impl Endpoint for Says {
 // An endpoint of this name: `raise`, `take`, a number, which is its status, or another name, which has the
 // status 200.
 fn endpoint(alloc: Global, name: &[u8], closed: &Rc<Cell<u32>>) -> Result<Says, NoMemory> {
-    let status = match name {
+    let closed = closed.clone()?;
+    Ok(Says {
+        alloc,
+        status: status_of(name),
+        name: Bytes::new(Vec::from_slice(alloc, name)?),
+        closed,
+    })
+}
+
+fn status_of(name: &[u8]) -> u32 {
+    match name {
         b"raise" => 0,
         b"take" => 1,
         b"404" => 404,
         b"405" => 405,
         b"500" => 500,
         _ => 200,
-    };
-    Ok(Says {
-        alloc,
-        status,
-        name: Bytes::new(Vec::from_slice(alloc, name)?),
-        closed: closed.clone()?,
-    })
+    }
+}
+
+fn add_endpoint(
+    alloc: Global,
+    apps: &mut Vec<Says>,
+    name: &[u8],
+    closed: &Rc<Cell<u32>>,
+) -> Result<(), NoMemory> {
+    Ok(apps.push(endpoint(alloc, name, closed)?)?)
+}
+
+fn add_endpoints(
+    alloc: Global,
+    apps: &mut Vec<Says>,
+    names: &[u8],
+    closed: &Rc<Cell<u32>>,
+) -> Result<(), NoMemory> {
+    for name in names.split(|byte| *byte == b',') {
+        if !name.is_empty() {
+            add_endpoint(alloc, apps, name, closed)?;
+        }
+    }
+    Ok(())
 }
 
 fn several(alloc: Global, names: &[u8], closed: &Rc<Cell<u32>>) -> Result<Vec<Says>, NoMemory> {
     let mut apps = Vec::new(alloc);
-    for name in names.split(|byte| *byte == b',') {
-        if !name.is_empty() {
-            apps.push(endpoint(alloc, name, closed)?)?;
-        }
+    match add_endpoints(alloc, &mut apps, names, closed) {
+        Ok(()) => Ok(apps),
+        Err(refused) => Err(refused),
     }
-    Ok(apps)
 }
 
 // A middleware of this name: `lint`, `method`, or another name, which is set as a header.
 fn ware(alloc: Global, name: &[u8]) -> Result<Ware, NoMemory> {
-    Ok(match name {
-        b"lint" => Ware::Lint,
-        b"method" => Ware::MethodOverride,
-        _ => {
-            let value = Bytes::new(Vec::from_slice(alloc, b"1")?);
-            Ware::SetHeader(Bytes::new(Vec::from_slice(alloc, name)?), value)
+    match name {
+        b"lint" => Ok(Ware::Lint),
+        b"method" => Ok(Ware::MethodOverride),
+        _ => set_header(alloc, name),
+    }
+}
+
+fn set_header(alloc: Global, name: &[u8]) -> Result<Ware, NoMemory> {
+    let name = Bytes::new(Vec::from_slice(alloc, name)?);
+    Ok(Ware::SetHeader(name, Bytes::new(Vec::from_slice(alloc, b"1")?)))
+}
+
+// A block that is open: its place, and the lines in front of it.
+type Open = (Bytes, Vec<Line<Says>>);
+
+fn put_line(lines: &mut Vec<Line<Says>>, line: Line<Says>) -> Result<(), NoMemory> {
+    Ok(lines.push(line)?)
+}
+
+// Opens a block for a place.
+fn open(
+    alloc: Global,
+    outer: &mut Vec<Open>,
+    lines: &mut Vec<Line<Says>>,
+    place: &[u8],
+) -> Result<(), NoMemory> {
+    let place = Bytes::new(Vec::from_slice(alloc, place)?);
+    let before = mem::replace(lines, Vec::new(alloc));
+    outer.push((place, before))?;
+    Ok(())
+}
+
+// Ends the innermost block.
+fn end(outer: &mut Vec<Open>, lines: &mut Vec<Line<Says>>) -> Result<(), NoMemory> {
+    match outer.pop() {
+        Some((place, before)) => {
+            let block = Steps {
+                lines: mem::replace(lines, before),
+            };
+            put_line(lines, Line::Map(place, block))
         }
-    })
+        None => Ok(()),
+    }
+}
+
+fn add_word(
+    alloc: Global,
+    outer: &mut Vec<Open>,
+    lines: &mut Vec<Line<Says>>,
+    word: &[u8],
+    closed: &Rc<Cell<u32>>,
+) -> Result<(), NoMemory> {
+    let Some((kind, rest)) = word.split_first() else {
+        return Ok(());
+    };
+    match *kind {
+        b'u' => put_line(lines, Line::Use(ware(alloc, rest)?)),
+        b'r' => put_line(lines, Line::Run(endpoint(alloc, rest, closed)?)),
+        b'c' => put_line(lines, Line::Cascade(several(alloc, rest, closed)?)),
+        b'm' => open(alloc, outer, lines, rest),
+        _ => end(outer, lines),
+    }
+}
+
+fn add_words(
+    alloc: Global,
+    lines: &mut Vec<Line<Says>>,
+    text: &str,
+    closed: &Rc<Cell<u32>>,
+) -> Result<(), NoMemory> {
+    let mut outer = Vec::new(alloc);
+    for word in text.as_bytes().split(|byte| *byte == b' ') {
+        add_word(alloc, &mut outer, lines, word, closed)?;
+    }
+    Ok(())
 }
 
 // The steps that the words say. The first byte of a word is `u` for a middleware, `r` for an endpoint, `c`
@@ -150,29 +243,9 @@ pub(crate) fn steps(
     text: &str,
     closed: &Rc<Cell<u32>>,
 ) -> Result<Steps<Says>, NoMemory> {
-    let mut outer: Vec<(Bytes, Vec<Line<Says>>)> = Vec::new(alloc);
     let mut lines = Vec::new(alloc);
-    for word in text.as_bytes().split(|byte| *byte == b' ') {
-        let Some((kind, rest)) = word.split_first() else {
-            continue;
-        };
-        match *kind {
-            b'u' => lines.push(Line::Use(ware(alloc, rest)?))?,
-            b'r' => lines.push(Line::Run(endpoint(alloc, rest, closed)?))?,
-            b'c' => lines.push(Line::Cascade(several(alloc, rest, closed)?))?,
-            b'm' => {
-                let place = Bytes::new(Vec::from_slice(alloc, rest)?);
-                outer.push((place, lines))?;
-                lines = Vec::new(alloc);
-            }
-            _ => {
-                if let Some((place, before)) = outer.pop() {
-                    let block = Steps { lines };
-                    lines = before;
-                    lines.push(Line::Map(place, block))?;
-                }
-            }
-        }
+    match add_words(alloc, &mut lines, text, closed) {
+        Ok(()) => Ok(Steps { lines }),
+        Err(refused) => Err(refused),
     }
-    Ok(Steps { lines })
 }
