@@ -182,42 +182,68 @@ fn empty_env(alloc: Global) -> Env {
     Env::new(alloc, Input::new(Bytes::new(Vec::new(alloc))))
 }
 
+fn one_piece(alloc: Global) -> Result<OnePiece, NoMemory> {
+    let text = Bytes::new(Vec::from_slice(alloc, b"text")?);
+    Ok(OnePiece { text, given: false })
+}
+
 #[test]
 fn bodies_are_pulled(rt: HostRuntime) -> Result<(), NoMemory> {
-    let text = Bytes::new(Vec::from_slice(rt.alloc(), b"text")?);
-    let body = OnePiece { text, given: false };
-    assert_eq!(rt;
-        read_body(rt.alloc(), body)?.as_slice(),
-        "text|!".as_bytes()
-    );
+    let text = read_body(rt.alloc(), one_piece(rt.alloc())?)?;
+    assert_eq!(rt; text.as_slice(), "text|!".as_bytes());
     Ok(())
+}
+
+fn put_piece(alloc: Global, pieces: &mut Vec<Bytes>, text: &[u8]) -> Result<(), NoMemory> {
+    pieces.push(Bytes::new(Vec::from_slice(alloc, text)?))?;
+    Ok(())
+}
+
+fn put_two(alloc: Global, pieces: &mut Vec<Bytes>) -> Result<(), NoMemory> {
+    put_piece(alloc, pieces, b"hel")?;
+    put_piece(alloc, pieces, b"lo")
+}
+
+fn length_of_two(alloc: Global) -> Result<Option<u64>, NoMemory> {
+    let mut pieces = Vec::new(alloc);
+    match put_two(alloc, &mut pieces) {
+        Ok(()) => Ok(Plain::new(pieces, false, true, Kind::Enumerable).known_length()),
+        Err(refused) => Err(refused),
+    }
 }
 
 #[test]
 fn length_is_known(rt: HostRuntime) -> Result<(), NoMemory> {
-    let mut pieces = Vec::new(rt.alloc());
-    pieces.push(Bytes::new(Vec::from_slice(rt.alloc(), b"hel")?))?;
-    pieces.push(Bytes::new(Vec::from_slice(rt.alloc(), b"lo")?))?;
-    let body = Plain::new(pieces, false, true, Kind::Enumerable);
-    assert_eq!(rt; body.known_length(), Some(5));
+    assert_eq!(rt; length_of_two(rt.alloc())?, Some(5));
     Ok(())
+}
+
+fn says_hello(alloc: Global, over: &mut Over<Hello>, env: &mut Env) -> Result<bool, NoMemory>
+    requires { over.old.runs < 2 ^ 64 - 1 }
+{
+    let (status, text) = run_once(alloc, over, env)?;
+    Ok(status == 200 && text.as_slice() == "hel|lo|".as_bytes())
 }
 
 #[test]
 fn runs_an_endpoint(rt: HostRuntime) -> Result<(), NoMemory> {
     let mut env = empty_env(rt.alloc());
-    let hello = Hello {
+    let endpoint = Hello {
         alloc: rt.alloc(),
         status: 200,
     };
-    let mut over = Over {
-        endpoint: hello,
-        runs: 0,
-    };
-    let (status, text) = run_once(rt.alloc(), &mut over, &mut env)?;
-    assert_eq!(rt; status, 200);
-    assert_eq!(rt; text.as_slice(), "hel|lo|".as_bytes());
+    let mut over = Over { endpoint, runs: 0 };
+    assert!(rt; says_hello(rt.alloc(), &mut over, &mut env)?);
     Ok(())
+}
+
+// The status of the second run.
+fn second_status(alloc: Global, teller: &mut Teller, env: &mut Env) -> Result<u32, NoMemory>
+    requires { teller.old.runs ≡ 0 }
+{
+    let _ = run_once(alloc, teller, env)?;
+    let (second, _) = run_once(alloc, teller, env)?;
+    Ok(second)
 }
 
 #[test]
@@ -232,9 +258,7 @@ fn tells_its_runs(rt: HostRuntime) -> Result<(), NoMemory> {
         answered: Log::new(),
         asked: Log::new(),
     };
-    let _ = run_once(rt.alloc(), &mut teller, &mut env)?;
-    let (second, _) = run_once(rt.alloc(), &mut teller, &mut env)?;
-    assert_eq!(rt; second, 202);
+    assert_eq!(rt; second_status(rt.alloc(), &mut teller, &mut env)?, 202);
     Ok(())
 }
 
