@@ -1,5 +1,6 @@
 // A hijacker is told what came.
 ghost use Rattle.std.specs.Prelude.{◌≡◌, [], if◌then◌else◌};
+ghost use Rattle.conn_core.specs.Place.{left_at};
 ghost use Rattle.conn_core.specs.Steps.{Tells, TellsEnd, HandsOn, EndsOn};
 
 use crate::held::Held;
@@ -80,6 +81,23 @@ fn part<B: Body, H>(silent: bool) -> At<B, H>
         At::Over(Why::Hijacked)
     } else {
         At::Parting
+    }
+}
+
+// Tells the hijacker at this place, which has the connection, that the server drains. It ends behind what it said.
+pub(crate) fn let_leave<B: Body, H: Hijack + Drop>(at: At<B, H>) -> At<B, H>
+    ensures { result ≡ left_at at }
+{
+    match at {
+        At::Taken(mut hijacker) => {
+            hijacker.leave();
+            At::Over(Why::Hijacked)
+        }
+        At::Speaking(mut hijacker) => {
+            hijacker.leave();
+            At::Parting
+        }
+        at => at,
     }
 }
 
