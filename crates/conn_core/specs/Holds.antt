@@ -1,5 +1,5 @@
 -- What a connection stands for between its steps, by where it is.
-use Rattle.std.specs.Prelude.{◌≡◌, ℕ, suc, ◌-◌, ◌^◌, min, ◌+◌, ◌≤◌, Bool, true, false, List, [], ◌++◌, length, Option, None, Some, is_some}
+use Rattle.std.specs.Prelude.{◌≡◌, ℕ, suc, ◌-◌, ◌^◌, min, ◌+◌, ◌≤◌, Bool, true, false, List, [], ◌++◌, length, Option, None, Some, is_some, ⊤}
 use Rattle.rack_types.specs.declared.fault.Fault.{Fault}
 use Rattle.rack_types.specs.Limits.{stock_limits}
 use Rattle.rack_types.specs.Request.{Parts}
@@ -7,7 +7,7 @@ use Rattle.rack_types.specs.declared.body.Body.{Ghosts}
 use Rattle.rack_outside.specs.Link.{Seen}
 use Rattle.message_framing.specs.declared.intake.Intake.{Intake}
 use Rattle.message_framing.specs.Intake.{Fed}
-use Rattle.message_framing.specs.Request.{IsRequest, Refusal, Wanting, Begun}
+use Rattle.message_framing.specs.Request.{IsRequest, Refusal, Wanting}
 use Rattle.hijack_core.specs.Said.{GoesOnAs}
 use Rattle.reply_framing.specs.declared.types.After.TheVariants.{Hijack}
 use Rattle.reply_framing.specs.Owes.{Owes}
@@ -36,7 +36,6 @@ pub record Kept : Type 0 where
   pub calls : ℕ
   pub taken : ℕ
   pub ending : Ending
-  pub begun : Option ℕ
 
 -- what a connection has behind it
 abbrev pub past : Seen → Kept → List ℕ → List ℕ → Bool → Past
@@ -50,11 +49,6 @@ past s c given sent over = record {
   told = c.ending.told;
   closing = c.ending.closing;
 }
-
--- a moment is kept exactly where of these bytes, in which nothing whole stands, a request is begun
-abbrev pub BegunAs : Option ℕ → List ℕ → Type 0
-BegunAs None now = ¬ (Begun now)
-BegunAs (Some since) now = Begun now
 
 -- nothing is owed: the intake was fed these bytes, and those held come behind them. The peer did not end, and nothing
 -- ends the connection
@@ -107,7 +101,7 @@ Refuses {H} (Some late) V T over given sent c =
 
 abbrev pub HoldsAt : {B H : Type 0} → At B H → Voice H → Teller H → Seen → Bool → List ℕ → List ℕ → Kept → Type 0
 HoldsAt {B} {H} at.Reading V T s over given sent c =
-    (now : List ℕ) × Wanting now × (c.held ≡ []) × Between V T over given sent c now × BegunAs c.begun now
+    (now : List ℕ) × Wanting now × (c.held ≡ []) × Between V T over given sent c now
 HoldsAt {B} {H} at.Asked V T s over given sent c =
     (now : List ℕ) × (r : Parts) × IsRequest now r × Between V T over given sent c now
 HoldsAt {B} {H} (at.Refused f) V T s over given sent c =
@@ -141,7 +135,6 @@ kept {B} {H} {g} p = record {
   calls = p.calls;
   taken = p.taken;
   ending = p.ending;
-  begun = p.moments.begun;
 }
 
 abbrev pub HoldsBy : {B H : Type 0} {g : Ghosts B} → Voice H → Teller H → Seen → Inside B H g → Type 0

@@ -138,6 +138,7 @@ pub record Steps (old new : Shown) (s s' : Seen) (l l' : Left) : Type 0 where
   pub calls : new.calls + l'.runs ≡ old.calls + l.runs
   pub few : (l'.runs ≤ l.runs) × (l'.reads ≤ l.reads) × (l'.writes ≤ l.writes)
   pub replied : (n : ℕ) → RestsBehind old.state n old.replied → RestsBehind new.state n new.replied
+  pub drains : Drains old new
   pub ends : old.ending.late ≡ None → (first : Seen) → first.failed_reads ≤ s.failed_reads → first.failed_writes ≤ s.failed_writes
       → TurnEnds None old.why first s → TurnEnds None new.why first s'
 

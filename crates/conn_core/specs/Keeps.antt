@@ -1,5 +1,5 @@
 -- What each move of a connection does to its ring, to what was told of its end, and to the moments that it keeps.
-use Rattle.std.specs.Prelude.{◌≡◌, ◌≢◌, ℕ, ◌+◌, ◌<◌, ◌≤◌, nat_lt, max, Bool, true, false, ◌&&◌, ◌||◌, not, if◌then◌else◌, List, [], ◌∷◌, take, drop, Option, None, Some, ◌⊎◌, ⊤}
+use Rattle.std.specs.Prelude.{◌≡◌, ◌≢◌, ℕ, ◌<◌, ◌≤◌, nat_lt, Bool, false, ◌&&◌, ◌||◌, not, if◌then◌else◌, ◌==◌, List, [], length, take, drop, Option, None, Some, ◌⊎◌, ⊤}
 use Rattle.rack_types.specs.declared.fault.Fault.{Fault}
 use Rattle.rack_outside.specs.declared.link.LinkRead.{LinkRead}
 use Rattle.rack_outside.specs.declared.link.LinkRead.TheVariants as read
@@ -20,8 +20,7 @@ abbrev pub ring_room : ℕ
 ring_room = 65536
 
 abbrev pub no_bytes : List ℕ → Bool
-no_bytes [] = true
-no_bytes (x ∷ xs) = false
+no_bytes xs = length xs == 0
 
 -- a call was handed this moment
 abbrev pub reaching : ℕ → Shown → Shown
@@ -137,7 +136,7 @@ pub record Keeps (now : ℕ) (move : Move) (old new : Shown) : Type 0 where
   pub last : new.moments.last ≡ old.moments.last
   pub opened : new.moments.opened ≡ old.moments.opened
   pub took : new.moments.took ≡ took_by now move old.moments.took
-  pub filled : new.moments.filled ≡ filled_by now move old new
+  pub filled : new.state ≢ state.Over → new.moments.filled ≡ filled_by now move old new
   pub begun : BegunBy now move new.state old.moments.begun new.moments.begun
   pub ring : new.ring ≡ ring_by new.state move old new
 

@@ -1,6 +1,5 @@
 -- The moments that a connection keeps, in milliseconds, and what they tell.
-use Rattle.std.specs.Prelude.{◌≡◌, ℕ, ◌+◌, ◌≤◌, max, Option, None, Some}
-use Rattle.rack_types.specs.Limits.{stock_limits}
+use Rattle.std.specs.Prelude.{ℕ, ◌+◌, ◌≤◌, max, Option, None, Some}
 use Rattle.talk_core.specs.declared.ended.Why.{Why}
 use Rattle.talk_core.specs.declared.ended.Why.TheVariants as why
 use Rattle.conn_core.specs.declared.moments.Late.{Late}

@@ -13,7 +13,7 @@ use Rattle.rack_outside.specs.Link.{Seen, Tells}
 use Rattle.rack_types.specs.Request.{Parts}
 use Rattle.message_framing.specs.Request.{Wanting}
 use Rattle.talk_core.specs.Talk.{Asks}
-use Rattle.conn_core.specs.Holds.{BegunAs}
+use Rattle.conn_core.specs.Rests.{BegunAs}
 use Rattle.conn_core.specs.declared.state.State.{State}
 use Rattle.conn_core.specs.declared.state.State.TheVariants as state
 use Rattle.conn_core.specs.declared.state.Tick.{Tick}

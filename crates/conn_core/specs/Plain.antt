@@ -1,6 +1,6 @@
 -- How a connection ended, with what was being said, where some of it is lacking: the reply that says that a request took
 -- too long is said only where one was timed out.
-use Rattle.std.specs.Prelude.{◌≢◌, ℕ, ◌<◌, Bool, false, List, []}
+use Rattle.std.specs.Prelude.{◌≢◌, ℕ, ◌<◌, Bool, List, []}
 use Rattle.rack_types.specs.declared.peer.Local.{Local}
 use Rattle.rack_outside.specs.Link.{Seen}
 use Rattle.talk_core.specs.declared.ended.Ended.{Ended}

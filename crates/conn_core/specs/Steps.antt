@@ -26,10 +26,9 @@ use Rattle.reply_framing.specs.Owes.{StandsFor}
 use Rattle.reply_framing.specs.Reply.{WholeReply, reply}
 use Rattle.talk_core.specs.declared.ended.Why.TheVariants as why
 use Rattle.talk_core.specs.Tail.{Voice}
-use Rattle.conn_core.specs.Holds.{BegunAs}
 use Rattle.conn_core.specs.Keeps.{BegunNow}
 use Rattle.conn_core.specs.Moments.{ended_by}
-use Rattle.conn_core.specs.Rests.{after_of}
+use Rattle.conn_core.specs.Rests.{after_of, BegunAs}
 use Rattle.conn_core.specs.declared.moments.Late.{Late}
 use Rattle.conn_core.specs.declared.place.At.{At}
 use Rattle.conn_core.specs.declared.place.At.TheVariants as at

@@ -1,20 +1,22 @@
 // A request is run, or a refusal is named, and a reply begins.
-ghost use Rattle.std.specs.Prelude.{◌≡◌, ◌<◌, ◌≤◌, ◌+◌, ◌-◌, ◌^◌, ℕ, List, true, false};
+ghost use Rattle.std.specs.Prelude.{◌≡◌, ◌<◌, ◌≤◌, ◌+◌, ◌-◌, ◌^◌, ℕ, List, true, Some, if◌then◌else◌};
 ghost use Rattle.rack_types.specs.Env.{Pairs};
 ghost use Rattle.rack_outside.specs.Link.{Seen};
-ghost use Rattle.talk_core.specs.Teller.{Teller};
+ghost use Rattle.talk_core.specs.Teller.{Teller, is_last};
 ghost use Rattle.conn_core.specs.Holds.{HoldsBy};
-ghost use Rattle.conn_core.specs.Inner.{runs_of, TellsBy, TellsFrom, RunsOnce, TakesUp, work};
-ghost use Rattle.conn_core.specs.Keeps.{Keeps, Refusal};
+ghost use Rattle.conn_core.specs.Inner.{runs_of, TellsFrom, RunsOnce, TakesUp, work};
+ghost use Rattle.conn_core.specs.Keeps.{Keeps, Refusal, drains_now};
 ghost use Rattle.conn_core.specs.Moves.{NamesFault};
 ghost use Rattle.conn_core.specs.Place.{state_at};
 ghost use Rattle.conn_core.specs.Runs.{RunsBy};
 ghost use Rattle.conn_core.specs.Shown.{shows};
 
-use crate::hijack::hand_on;
+use crate::held::Held;
+use crate::hijack::hand_over;
 use crate::inside::Inside;
 use crate::left::Left;
-use crate::place::{At, is_handing, put};
+use crate::moments::filled;
+use crate::place::{At, put};
 use crate::state::State;
 use crate::steps::{prepare, run};
 use hijack_core::Hijack;
@@ -25,6 +27,30 @@ use talk_core::Why;
 // The number of the last request, counted from 0.
 const LAST: u64 = 9_999;
 
+// Whether the reply to the request that stands closes by draining: that was told, and no byte is held behind it.
+fn drains(told: u64, held: &Held) -> bool
+    ensures { result ≡ drains_now told held.now }
+{
+    told > 0 && held.bytes().is_empty()
+}
+
+// The number of the request whose reply closes by draining: this one, or as before.
+fn closing(drains: bool, calls: u64, before: Option<u64>) -> Option<u64>
+    ensures { result ≡ (if drains then Some calls else before) }
+{
+    if drains { Some(calls) } else { before }
+}
+
+// Whether this request is the last one.
+fn is_last(closing: Option<u64>, calls: u64) -> bool
+    ensures { result ≡ is_last closing calls }
+{
+    match closing {
+        Some(last) => (calls == LAST) | (calls == last),
+        None => calls == LAST,
+    }
+}
+
 impl<B: Body, H: Hijack + Drop> Inside<B, H> {
     // Runs the request that stands, and begins its reply, or hands the connection to a hijacker. It tells whether the run
     // was made.
@@ -32,7 +58,7 @@ impl<B: Body, H: Hijack + Drop> Inside<B, H> {
         requires at { self.old.at ≡ At.Asked }
         requires room { R.runs runner.old < 2 ^ 64 - 1 }
         ensures holds { (T : Teller H) (s : Seen)
-            → TellsBy T (R.answer runner.old) self.old.local self.old.peer self.new.ending.closing self.old.calls
+            → TellsFrom T (R.answer runner.old) self.old.local self.old.peer self.new.ending.closing self.old.calls self.new.calls
             → HoldsBy (record { says = H.says; ends = H.ends }) T s self.old → HoldsBy (record { says = H.says; ends = H.ends }) T s self.new }
         ensures any { (T : Teller H) (s : Seen) → HoldsBy (record { says = H.says; ends = H.ends }) T s self.old → RunsBy (record { says = H.says; ends = H.ends }) T self.old.calls s self.new }
         ensures runs { RunsOnce now result (shows self.old) (shows self.new) }
@@ -41,20 +67,14 @@ impl<B: Body, H: Hijack + Drop> Inside<B, H> {
     {
         match prepare(&mut self.intake, &mut self.env, &self.peer, &self.local) {
             Ok(ask) => {
-                let drains = self.ending.told > 0 && self.held.bytes().is_empty();
-                let last = self.calls == LAST || drains;
-                if drains {
-                    self.ending.closing = Some(self.calls);
-                }
+                let drains = drains(self.ending.told, &self.held);
+                self.ending.closing = closing(drains, self.calls, self.ending.closing);
+                let last = is_last(self.ending.closing, self.calls);
                 let at = run(self.alloc, runner, &mut self.env, ask, last);
                 self.calls += 1;
-                let at = if is_handing(&at) {
-                    hand_on(at, &mut self.held, &mut self.ring)
-                } else {
-                    at
-                };
+                let at = hand_over(at, &mut self.held, &mut self.ring);
                 put(&mut self.at, at);
-                self.fills(now);
+                self.moments.filled = filled(!self.ring.is_empty(), now, self.moments.filled);
                 true
             }
             Err(_) => {

@@ -19,6 +19,7 @@ use crate::inside::Inside;
 use crate::moments::{Ending, Moments};
 use crate::place::{At, close, is_saying, state_at};
 use crate::state::{Next, State};
+use crate::steps::begins;
 use circular_buffer::HeapCircularBuffer;
 use hijack_core::Hijack;
 use message_framing::Intake;
@@ -297,6 +298,8 @@ fn inside<B: Body, H: Drop>(
     let mut lives = Vec::with_capacity(alloc, LIVES)?;
     lives.push(Life { first: 0, phase }).unwrap();
     let env = Env::new(alloc, Input::new(Bytes::new(Vec::new(alloc))));
+    let at = At::Reading;
+    let begun = begins(&at, &intake, None, now);
     match Box::new(
         alloc,
         Inside {
@@ -315,8 +318,8 @@ fn inside<B: Body, H: Drop>(
                 closing: None,
                 late: None,
             },
-            moments: Moments::new(now),
-            at: At::Reading,
+            moments: Moments::new(now, begun),
+            at,
         },
     ) {
         Ok(inside) => Ok(inside),

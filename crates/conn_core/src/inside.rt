@@ -1,6 +1,6 @@
 // All of a connection but its link.
 ghost use Rattle.std.specs.Prelude.{◌≡◌};
-ghost use Rattle.conn_core.specs.Rests.{RestsAt, RestsAt-prop};
+ghost use Rattle.conn_core.specs.Rests.{RestsAt, RestsAt-prop, Begins, Begins-prop};
 
 use crate::held::Held;
 use crate::moments::{Ending, Moments};
@@ -32,4 +32,5 @@ pub(crate) struct Inside<B: Body, H> {
     pub(crate) at: At<B, H>,
     pub(crate) ghost room: { ring.capacity ≡ 65536 },
     pub(crate) ghost rests: { RestsAt at intake held ring.items calls ending } by { RestsAt-prop at intake held ring.items calls ending },
+    pub(crate) ghost begins: { Begins at intake moments.begun } by { Begins-prop at intake moments.begun },
 }

@@ -1,5 +1,6 @@
 // The moments that a connection keeps, and what was told of its end.
 ghost use Rattle.std.specs.Prelude.{◌≡◌, None};
+ghost use Rattle.conn_core.specs.Keeps.{filled_if};
 ghost use Rattle.conn_core.specs.Moments.{reached, quiet_since, stuck_since, ended_by};
 
 use talk_core::Why;
@@ -38,15 +39,15 @@ pub(crate) struct Ending {
 }
 
 impl Moments {
-    // At the opening.
-    pub(crate) fn new(now: u64) -> Moments
-        ensures { result ≡ record { last = now; opened = now; took = None; begun = None; filled = now } }
+    // At the opening, with the moment at which a request was begun, if one was.
+    pub(crate) fn new(now: u64, begun: Option<u64>) -> Moments
+        ensures { result ≡ record { last = now; opened = now; took = None; begun = begun; filled = now } }
     {
         Moments {
             last: now,
             opened: now,
             took: None,
-            begun: None,
+            begun,
             filled: now,
         }
     }
@@ -91,4 +92,11 @@ pub(crate) fn ended_by(late: Option<Late>) -> Why
         },
         None => Why::Closed,
     }
+}
+
+// The moment at which bytes came into an empty ring: now, or as before.
+pub(crate) fn filled(came: bool, now: u64, before: u64) -> u64
+    ensures { result ≡ filled_if came now before }
+{
+    if came { now } else { before }
 }

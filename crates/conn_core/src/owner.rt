@@ -1,8 +1,9 @@
 // What its owner does with a connection beside moving it on: it ends it, places it anew, tells it the time or a drain, or
 // lends its link out.
-ghost use Rattle.std.specs.Prelude.{◌≡◌, ◌≢◌, ◌<◌, ◌≤◌, ◌↔◌, IsTrue, false};
+ghost use Rattle.std.specs.Prelude.{◌≡◌, ◌≢◌, ◌<◌, ◌≤◌, ◌↔◌, [], ◌∷◌, IsTrue, false};
 ghost use Rattle.rack_outside.specs.Link.{Seen, IsTouched};
 ghost use Rattle.rack_outside.specs.Told.{Rose};
+ghost use Rattle.talk_core.specs.Ended.{AreLives};
 ghost use Rattle.talk_core.specs.Tail.{Voice};
 ghost use Rattle.talk_core.specs.Teller.{Stacks, Teller, last_phase};
 ghost use Rattle.conn_core.specs.Holds.{Holds, HoldsBy, HoldsWith};
@@ -26,8 +27,20 @@ use talk_core::{IdleBy, Life, Why};
 
 // The limits of a connection that waits, in milliseconds.
 const IDLE: u64 = 20_000;
+
 const REQUEST: u64 = 30_000;
+
 const WRITE: u64 = 10_000;
+
+// Places the last life in this phase.
+fn put_phase(lives: &mut Vec<Life>, phase: u32)
+    ensures { AreLives lives.old.items → lives.new.items ≡ record { first = 0; phase = phase } ∷ [] }
+{
+    let count = lives.len();
+    if count > 0 {
+        lives[count - 1].phase = phase;
+    }
+}
 
 // Whether so long passed.
 fn passed(since: u64, limit: u64, now: u64) -> bool
@@ -63,10 +76,7 @@ impl<B: Body, H: Drop> Inside<B, H> {
         ensures holds { (V : Voice H) (T : Teller H) (s : Seen) → HoldsBy V T s self.old → HoldsBy V T s self.new }
         ensures placed { PlacedIn phase (shows self.old) (shows self.new) }
     {
-        let lives = self.lives.len();
-        if lives > 0 {
-            self.lives[lives - 1].phase = phase;
-        }
+        put_phase(&mut self.lives, phase);
         self.ending.told = 0;
     }
 
@@ -101,7 +111,10 @@ impl<B: Body, H: Drop> Inside<B, H> {
             None => {
                 let since = self.moments.quiet();
                 if passed(since, IDLE, now) {
-                    put(&mut self.at, At::Over(Why::Idle(IdleBy::Clock { since, now })));
+                    put(
+                        &mut self.at,
+                        At::Over(Why::Idle(IdleBy::Clock { since, now })),
+                    );
                     Tick::Over
                 } else {
                     Tick::Still
@@ -151,8 +164,9 @@ impl<B: Body, H: Hijack + Drop> Inside<B, H> {
         ensures taken { self.new.taken ≡ self.old.taken }
     {
         match state_at(&self.at) {
-            State::Reading => if self.moments.begun.is_none() {
-                put(&mut self.at, At::Over(Why::Idle(IdleBy::Drain { level })));
+            State::Reading => match self.moments.begun {
+                Some(_) => {}
+                None => put(&mut self.at, At::Over(Why::Idle(IdleBy::Drain { level }))),
             },
             State::Hijacked => {
                 let at = let_leave(mem::replace(&mut self.at, At::Refusing));

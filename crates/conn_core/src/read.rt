@@ -12,6 +12,7 @@ ghost use Rattle.conn_core.specs.Shown.{shows};
 use crate::answers::fed;
 use crate::hijack::{end_on, hand_on};
 use crate::inside::Inside;
+use crate::moments::filled;
 use crate::place::{At, put, state_at};
 use crate::state::{Next, State};
 use crate::steps::{begins, feed_held};
@@ -66,7 +67,7 @@ impl<B: Body, H: Hijack + Drop> Inside<B, H> {
                 let at = mem::replace(&mut self.at, At::Refusing);
                 let at = hand_on(at, &mut self.held, &mut self.ring);
                 put(&mut self.at, at);
-                self.fills(now);
+                self.moments.filled = filled(!self.ring.is_empty(), now, self.moments.filled);
                 LinkRead::Bytes(n)
             }
             LinkRead::NotYet => LinkRead::NotYet,
@@ -74,7 +75,7 @@ impl<B: Body, H: Hijack + Drop> Inside<B, H> {
                 let at = mem::replace(&mut self.at, At::Refusing);
                 let at = end_on(at, &mut self.ring);
                 put(&mut self.at, at);
-                self.fills(now);
+                self.moments.filled = filled(!self.ring.is_empty(), now, self.moments.filled);
                 LinkRead::End
             }
             LinkRead::Failed => {

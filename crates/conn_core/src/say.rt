@@ -1,17 +1,17 @@
 // What is owed is said.
-ghost use Rattle.std.specs.Prelude.{◌≡◌, IsTrue};
+ghost use Rattle.std.specs.Prelude.{◌≡◌, ◌≢◌, IsTrue};
 ghost use Rattle.rack_outside.specs.Link.{Seen};
 ghost use Rattle.talk_core.specs.Teller.{Teller};
 ghost use Rattle.conn_core.specs.Calls.{Flushes};
 ghost use Rattle.conn_core.specs.Holds.{HoldsBy};
 ghost use Rattle.conn_core.specs.Inner.{Says, SaysOnce, FillsShown, IsFilledAt};
-ghost use Rattle.conn_core.specs.Keeps.{filled_then};
 ghost use Rattle.conn_core.specs.Place.{IsSaying};
 ghost use Rattle.conn_core.specs.Shown.{shows};
 
 use crate::answers::flushed;
 use crate::inside::Inside;
 use crate::left::Said;
+use crate::moments::filled;
 use crate::place::{At, is_answering, is_saying, put};
 use crate::send::send;
 use crate::state::Next;
@@ -21,17 +21,6 @@ use rack_outside::{Link, LinkWrite};
 use rack_types::Body;
 use std::mem;
 use talk_core::Why;
-
-impl<B: Body, H: Drop> Inside<B, H> {
-    // Bytes may have come into the ring, which was empty.
-    pub(crate) fn fills(&mut self, now: u64)
-        ensures { self.new ≡ record self.old { moments = filled_then now self.old.ring.items self.old.moments } }
-    {
-        if !self.ring.is_empty() {
-            self.moments.filled = now;
-        }
-    }
-}
 
 impl<B: Body, H: Hijack + Drop> Inside<B, H> {
     // Fills the ring from the reply that is under way, if there is one, and tells whether memory sufficed.
@@ -43,11 +32,10 @@ impl<B: Body, H: Hijack + Drop> Inside<B, H> {
     {
         let empty = self.ring.is_empty();
         let at = fill(mem::replace(&mut self.at, At::Refusing), &mut self.ring);
+        let _few = self.ring.len();
         let goes_on = is_saying(&at);
         put(&mut self.at, at);
-        if goes_on && empty {
-            self.moments.filled = now;
-        }
+        self.moments.filled = filled(goes_on & empty, now, self.moments.filled);
         goes_on
     }
 
@@ -57,6 +45,7 @@ impl<B: Body, H: Hijack + Drop> Inside<B, H> {
         ensures holds { (T : Teller H) → HoldsBy (record { says = H.says; ends = H.ends }) T (L.seen link.old) self.old → HoldsBy (record { says = H.says; ends = H.ends }) T (L.seen link.new) self.new }
         ensures says { Says result (shows self.old) (shows self.new) (L.seen link.old) (L.seen link.new) }
         ensures once { SaysOnce now result (shows self.old) (shows self.new) (L.seen link.old) (L.seen link.new) }
+        ensures wrote { result ≢ Said.Unwritten }
     {
         match send(link, &mut self.ring) {
             LinkWrite::Took(_) => {
@@ -72,7 +61,7 @@ impl<B: Body, H: Hijack + Drop> Inside<B, H> {
                     );
                     self.moments.begun = begins(&at, &self.intake, None, now);
                     put(&mut self.at, at);
-                    self.fills(now);
+                    self.moments.filled = filled(!self.ring.is_empty(), now, self.moments.filled);
                     Said::Wrote
                 } else {
                     Said::Wrote

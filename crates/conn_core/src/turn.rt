@@ -5,7 +5,6 @@ ghost use Rattle.talk_core.specs.Teller.{Teller};
 ghost use Rattle.conn_core.specs.Calls.{Turns};
 ghost use Rattle.conn_core.specs.Holds.{HoldsBy};
 ghost use Rattle.conn_core.specs.Inner.{TellsFrom, Steps, StepLeaves, StepMoves};
-ghost use Rattle.conn_core.specs.Keeps.{Drains};
 ghost use Rattle.conn_core.specs.Place.{IsSaying, state_at as place_as};
 ghost use Rattle.conn_core.specs.Runs.{RunsBy};
 ghost use Rattle.conn_core.specs.Shown.{shows};
@@ -26,7 +25,6 @@ impl<B: Body, H: Hijack + Drop> Inside<B, H> {
         ensures holds { (T : Teller H) → HoldsBy (record { says = H.says; ends = H.ends }) T (L.seen link.old) self.old → HoldsBy (record { says = H.says; ends = H.ends }) T (L.seen link.new) self.new }
         ensures steps { Steps (shows self.old) (shows self.new) (L.seen link.old) (L.seen link.new) left.old left.new }
         ensures moves { StepMoves now result (shows self.old) (shows self.new) (L.seen link.old) (L.seen link.new) left.old left.new }
-        ensures drains { Drains (shows self.old) (shows self.new) }
         ensures leaves { StepLeaves result left.old left.new self.old.at self.new.at (L.seen link.old) (L.seen link.new) }
         ensures runs { left.new.runs ≡ left.old.runs }
     {
@@ -61,7 +59,6 @@ impl<B: Body, H: Hijack + Drop> Inside<B, H> {
         ensures any { (T : Teller H) → HoldsBy (record { says = H.says; ends = H.ends }) T (L.seen link.old) self.old → RunsBy (record { says = H.says; ends = H.ends }) T self.old.calls (L.seen link.new) self.new }
         ensures steps { Steps (shows self.old) (shows self.new) (L.seen link.old) (L.seen link.new) left.old left.new }
         ensures moves { StepMoves now result (shows self.old) (shows self.new) (L.seen link.old) (L.seen link.new) left.old left.new }
-        ensures drains { Drains (shows self.old) (shows self.new) }
         ensures leaves { StepLeaves result left.old left.new self.old.at self.new.at (L.seen link.old) (L.seen link.new) }
         ensures counts { R.runs runner.new + left.new.runs ≡ R.runs runner.old + left.old.runs }
         ensures steady { R.steady ≡ true → (ps : Pairs) (input : List ℕ) → R.answer runner.new ps input ≡ R.answer runner.old ps input }
