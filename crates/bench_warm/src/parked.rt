@@ -45,7 +45,8 @@ fn read(conn: &mut Parked) {
     }
 }
 
-// Whether it stays as it was.
+// Whether it stays as it was. It is called each time, so that nothing is taken out of the loop.
+#[inline(never)]
 fn once(does: Does, conn: &mut Parked, watcher: &mut MemWatcher, now: u64) -> bool {
     match does {
         Does::Tick => match conn.state() {
