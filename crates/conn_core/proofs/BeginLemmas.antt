@@ -1,6 +1,6 @@
 -- What stands once a request was run or a refusal is named.
 use Rattle.std.proofs.Common.{◌≡◌, ℕ, suc, ◌+◌, ◌<◌, Bool, List, [], ◌++◌, length, refl, sym, ap, subst, ◌∙◌, arith, Option, None, Some, inr, true, false}
-use Rattle.std.specs.Prelude.{is_some, nat_lt, ◌&&◌, ◌||◌, ◌==◌, if◌then◌else◌}
+use Rattle.std.specs.Prelude.{nat_lt, ◌&&◌, ◌||◌, ◌==◌, if◌then◌else◌}
 use Rattle.std.proofs.lemmas.Bool.Decides.{nat_tests}
 use Rattle.std.proofs.lemmas.List.{append-nil, nil_from_length}
 use Rattle.rack_types.specs.declared.answer.Answer.{Answer}
@@ -41,7 +41,7 @@ use Rattle.conn_core.proofs.PlaceLemmas.{kept_same, over_same, unclosed, untimed
 
 -- what is owed of a reply, with want of memory
 pub unsaid : {H : Type 0} (V : Voice H) (T : Teller H) (s : Seen) (over : Bool) (given sent : List ℕ) (c : Kept) (k : ℕ) (r : Parts) (behind : List ℕ)
-    → Replying V T over given sent c k r behind → EndsPlainly (is_some c.ending.late) why.NoMemory V T (past s c given sent over)
+    → Replying V T over given sent c k r behind → EndsPlainly c.ending why.NoMemory V T (past s c given sent over)
 unsaid {H} V T s over given sent c k r behind h =
     let n : c.calls ≡ k + 1 = omega (arith, h.count) in
     (c.ring ++ behind, record { word = replies r; untimed = tt; partly = record { k = k; rest = c.held; calls_is = n; stands = h.stands; closes = h.closes } })

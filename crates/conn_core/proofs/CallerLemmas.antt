@@ -91,7 +91,7 @@ pub record EndsAt {H : Type 0} (s : Seen) (V : Voice H) (T : Teller H) (c : Show
   pub sent : List ℕ
   pub over : Bool
   pub shows : Shows s c.peer given sent over
-  pub ends : EndsPlainly (is_some c.ending.late) ended V T (past_in s c given sent over)
+  pub ends : EndsPlainly c.ending ended V T (past_in s c given sent over)
 
 -- the replies to its requests by some stacks
 abbrev pub told_to : {H : Type 0} → Stacks H → Shown → Teller H

@@ -17,7 +17,6 @@ use Rattle.conn_core.specs.Moments.{ended_by}
 use Rattle.conn_core.specs.Inner.{IsFilledAt}
 use Rattle.conn_core.specs.Place.{IsSaying}
 use Rattle.conn_core.specs.Plain.{EndsPlainly}
-use Rattle.std.specs.Prelude.{is_some}
 use Rattle.reply_framing.specs.Reply.{body_after}
 use Rattle.conn_core.specs.Rests.{GoesOn, RestsAt}
 use Rattle.conn_core.specs.Steps.{CompletesTo, HasRequest}
@@ -47,7 +46,7 @@ then_kept c new left ring = record c { intake = new; held = left; ring = ring }
 
 -- the reply that names a refusal was sent whole, or that a request took too long
 refused_ends : {H : Type 0} (V : Voice H) (T : Teller H) (s : Seen) (over : Bool) (given sent : List ℕ) (c : Kept) (none : c.ring ≡ []) (late : Option Late)
-    → Refuses late V T over given sent c → EndsPlainly (is_some c.ending.late) (ended_by late) V T (past s c given sent over)
+    → Refuses late V T over given sent c → EndsPlainly c.ending (ended_by late) V T (past s c given sent over)
 refused_ends {H} V T s over given sent c none None h = (
   refused h.0,
   h.1,
@@ -109,7 +108,7 @@ module _ {B H : Type 0} (V : Voice H) (T : Teller H) (s : Seen) (over : Bool) (g
       let q : Handed V T over given sent c = h.handed in
       let ends : HoldsAt {B = B} (at.Over why.Hijacked) V T s over given sent (then_kept c new left ring) =
       parted V T s over given sent c q.k q.request q.first q.rest q.count q.closes
-      (subst (λ (x : List ℕ). Stands V T over given sent q.k (hands_over q.request q.first) q.rest x) none q.stands) h.ended in
+      (subst (λ (x : List ℕ). Stands V T over given sent q.k (hands_over q.request q.first) q.rest x) none q.stands) h.ended h.leaves in
       subst (λ (d : At B H). HoldsAt d V T s over given sent (then_kept c new left ring)) (sym e.0) ends
   completes_at (at.Over ended) b e is rests h = absurd is
 

@@ -35,7 +35,7 @@ use Rattle.conn_core.specs.Keeps.{Drains, DrainsOnce}
 use Rattle.conn_core.specs.Opened.{IsFresh, untold}
 use Rattle.conn_core.specs.Owner.{EndsAnyTime}
 use Rattle.conn_core.specs.Place.{IsSaying, state_at}
-use Rattle.conn_core.specs.Plain.{EndsPlainly, IsPlainEnd}
+use Rattle.conn_core.specs.Plain.{EndsPlainly, IsPlainEnd, EndsOver}
 use Rattle.conn_core.specs.Rests.{RestsAt, IsUnended}
 use Rattle.conn_core.specs.Shown.{Shown, shows, owed_at}
 use Rattle.conn_core.proofs.PlaceLemmas.{over_same, unclosed}
@@ -81,18 +81,18 @@ ended_lives [] ended calls h = absurd h
 ended_lives (life ∷ lives) ended calls h = h
 
 -- an end whose word is named is an end
-plain_ends : {H : Type 0} (timed : Bool) (ended : Why) (V : Voice H) (T : Teller H) (p : Past) → EndsPlainly timed ended V T p → EndsBy ended V T p
-plain_ends {H} timed why.Closed V T p e = e
-plain_ends {H} timed why.PeerEnd V T p e = e
-plain_ends {H} timed (why.Idle by) V T p e = e
-plain_ends {H} timed (why.TimedOut since moment) V T p e = e
-plain_ends {H} timed (why.Stalled since moment) V T p e = e
-plain_ends {H} timed (why.Unread level) V T p e = e
-plain_ends {H} timed why.ReadFailed V T p e = e
-plain_ends {H} timed why.WriteFailed V T p e = (e.0, (e.1.0, record { word = e.1.1.word; partly = e.1.1.partly }, e.1.2))
-plain_ends {H} timed (why.Halted level) V T p e = e
-plain_ends {H} timed why.NoMemory V T p e = (e.0, record { word = e.1.word; partly = e.1.partly })
-plain_ends {H} timed why.Hijacked V T p e = e
+plain_ends : {H : Type 0} (m : Ending) (ended : Why) (V : Voice H) (T : Teller H) (p : Past) → EndsPlainly m ended V T p → EndsBy ended V T p
+plain_ends {H} m why.Closed V T p e = e
+plain_ends {H} m why.PeerEnd V T p e = e
+plain_ends {H} m (why.Idle by) V T p e = e
+plain_ends {H} m (why.TimedOut since moment) V T p e = e
+plain_ends {H} m (why.Stalled since moment) V T p e = (e.0, record { word = e.1.word; partly = e.1.partly }, e.2, e.3)
+plain_ends {H} m (why.Unread level) V T p e = e
+plain_ends {H} m why.ReadFailed V T p e = e
+plain_ends {H} m why.WriteFailed V T p e = (e.0, (e.1.0, record { word = e.1.1.word; partly = e.1.1.partly }, e.1.2))
+plain_ends {H} m (why.Halted level) V T p e = (e.0, (e.1.0, record { word = e.1.1.word; partly = e.1.1.partly }))
+plain_ends {H} m why.NoMemory V T p e = (e.0, record { word = e.1.word; partly = e.1.partly })
+plain_ends {H} m why.Hijacked V T p e = (e.h, e.rest, e.said, e.whole, e.sent, e.drain)
 
 -- its end
 end_at : {L B H : Type 0} {g : Ghosts B} (seen : L → Seen) (V : Voice H) (S : Stacks H) (number : ℕ) (link : L) (p : Inside B H g) (ended : Why)
@@ -107,14 +107,14 @@ end_at {L} {B} {H} {g} seen V S number link p ended is lives h =
       over = h.over;
       shows = h.shows;
       lives = ended_lives p.lives.items ended p.calls lives;
-      ends = plain_ends (is_some p.ending.late) ended V T (past (seen link) (kept p) h.given h.sent h.over)
+      ends = plain_ends p.ending ended V T (past (seen link) (kept p) h.given h.sent h.over)
           (subst (λ (a : At B H). HoldsAt a V T (seen link) h.over h.given h.sent (kept p)) is h.at);
     }
 
 -- the same, with what was being said
 plain_end_at : {L B H : Type 0} {g : Ghosts B} (seen : L → Seen) (V : Voice H) (S : Stacks H) (number : ℕ) (link : L) (p : Inside B H g) (ended : Why)
     → p.at ≡ at.Over ended → HoldsBy V (tell S p.lives.items p.local p.peer p.ending.closing) (seen link) p
-    → IsPlainEnd L seen V S p.local (is_some p.ending.late) (record { number = number; link = link; lives = p.lives; calls = p.calls; told = p.ending.told; closing = p.ending.closing; why = ended })
+    → IsPlainEnd L seen V S p.local p.ending (record { number = number; link = link; lives = p.lives; calls = p.calls; told = p.ending.told; closing = p.ending.closing; why = ended })
 plain_end_at {L} {B} {H} {g} seen V S number link p ended is h =
     let T : Teller H = tell S p.lives.items p.local p.peer p.ending.closing in
     record {
@@ -128,9 +128,9 @@ plain_end_at {L} {B} {H} {g} seen V S number link p ended is h =
 
 pub plain_end_of : {L B H : Type 0} {g : Ghosts B} (seen : L → Seen) (V : Voice H) (S : Stacks H) (number : ℕ) (link : L) (p q : Inside B H g) (ended : Why)
     → q ≡ p → q.at ≡ at.Over ended → HoldsBy V (tell S p.lives.items p.local p.peer p.ending.closing) (seen link) p
-    → IsPlainEnd L seen V S p.local (is_some p.ending.late) (record { number = number; link = link; lives = q.lives; calls = q.calls; told = q.ending.told; closing = q.ending.closing; why = ended })
+    → IsPlainEnd L seen V S p.local p.ending (record { number = number; link = link; lives = q.lives; calls = q.calls; told = q.ending.told; closing = q.ending.closing; why = ended })
 plain_end_of {L} {B} {H} {g} seen V S number link p q ended same is h =
-    subst (λ (x : Inside B H g). IsPlainEnd L seen V S p.local (is_some p.ending.late)
+    subst (λ (x : Inside B H g). IsPlainEnd L seen V S p.local p.ending
     (record { number = number; link = link; lives = x.lives; calls = x.calls; told = x.ending.told; closing = x.ending.closing; why = ended })) (sym same)
     (plain_end_at seen V S number link p ended (sym (ap (λ (x : Inside B H g). x.at) same) ∙ is) h)
 
@@ -141,6 +141,21 @@ end_of {L} {B} {H} {g} seen V S number link p q ended same is lives h =
     subst (λ (x : Inside B H g). IsEnded L seen V S p.local
     (record { number = number; link = link; lives = x.lives; calls = x.calls; told = x.ending.told; closing = x.ending.closing; why = ended })) (sym same)
     (end_at seen V S number link p ended (sym (ap (λ (x : Inside B H g). x.at) same) ∙ is) lives h)
+
+-- the same over any replies
+pub ends_over : {L B H : Type 0} {g : Ghosts B} (seen : L → Seen) (V : Voice H) (T : Teller H) (number : ℕ) (link : L) (p q : Inside B H g) (ended : Why)
+    → q ≡ p → q.at ≡ at.Over ended → HoldsBy V T (seen link) p
+    → EndsOver L seen V T p.peer p.ending (record { number = number; link = link; lives = q.lives; calls = q.calls; told = q.ending.told; closing = q.ending.closing; why = ended })
+ends_over {L} {B} {H} {g} seen V T number link p q ended same is h =
+    subst (λ (x : Inside B H g). EndsOver L seen V T p.peer p.ending
+    (record { number = number; link = link; lives = x.lives; calls = x.calls; told = x.ending.told; closing = x.ending.closing; why = ended })) (sym same)
+    (record {
+      given = h.given;
+      sent = h.sent;
+      over = h.over;
+      shows = h.shows;
+      ends = subst (λ (a : At B H). HoldsAt a V T (seen link) h.over h.given h.sent (kept p)) (sym (ap (λ (x : Inside B H g). x.at) same) ∙ is) h.at;
+    })
 
 -- while it lives it stands in part for its talk; what is owed is lacking
 pub record Part {H : Type 0} (V : Voice H) (T : Teller H) (over : Bool) (given sent : List ℕ) (calls : ℕ) (closing : Option ℕ) (late : Bool)
@@ -347,7 +362,7 @@ ends_any {B} {H} {g} V T s p c w live may n t m h = record {
     owed = owed_at p.at p.ring.items
 
     go : (why : Why) → EndsAnyTime why → PartOf V T h.over h.given h.sent (kept p) owed
-        → EndsPlainly (is_some p.ending.late) why V T (past s (kept p) h.given h.sent h.over)
+        → EndsPlainly p.ending why V T (past s (kept p) h.given h.sent h.over)
     go why.Closed m part = absurd m
     go why.PeerEnd m part = absurd m
     go (why.Idle by) m part = absurd m
@@ -356,7 +371,7 @@ ends_any {B} {H} {g} V T s p c w live may n t m h = record {
     go (why.Unread level) m part = absurd m
     go why.ReadFailed m part = absurd m
     go why.WriteFailed m part = absurd m
-    go (why.Halted level) m part = (m, (owed, record { word = part.word; partly = part.partly }))
+    go (why.Halted level) m part = (m, (owed, record { word = part.word; untimed = part.timed; partly = part.partly }))
     go why.NoMemory m part = (owed, record { word = part.word; untimed = part.timed; partly = part.partly })
     go why.Hijacked m part = absurd m
 
@@ -377,13 +392,10 @@ touched {B} {H} V T old new peer a c one h = record {
   at = go a h.at;
 }
   where
-    timed : Bool
-    timed = is_some c.ending.late
-
-    ends : (w : Why) → EndsPlainly timed w V T (past old c h.given h.sent h.over) → EndsPlainly timed w V T (past new c h.given h.sent h.over)
+    ends : (w : Why) → EndsPlainly c.ending w V T (past old c h.given h.sent h.over) → EndsPlainly c.ending w V T (past new c h.given h.sent h.over)
     ends w e =
-        subst (λ (n : ℕ). EndsPlainly timed w V T (record (past new c h.given h.sent h.over) { failed_writes = n })) (sym one.failed_writes)
-        (subst (λ (n : ℕ). EndsPlainly timed w V T (record (past old c h.given h.sent h.over) { failed_reads = n })) (sym one.failed_reads) e)
+        subst (λ (n : ℕ). EndsPlainly c.ending w V T (record (past new c h.given h.sent h.over) { failed_writes = n })) (sym one.failed_writes)
+        (subst (λ (n : ℕ). EndsPlainly c.ending w V T (record (past old c h.given h.sent h.over) { failed_reads = n })) (sym one.failed_reads) e)
 
     go : (b : At B H) → HoldsAt b V T old h.over h.given h.sent c → HoldsAt b V T new h.over h.given h.sent c
     go at.Reading x = x

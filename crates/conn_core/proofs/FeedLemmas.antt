@@ -1,6 +1,5 @@
 -- What stands behind the bytes held, once they were fed.
 use Rattle.std.proofs.Common.{◌≡◌, ℕ, ◌+◌, ◌<◌, Bool, false, List, [], ◌++◌, take, drop, refl, sym, ap, subst, ◌∙◌, append_assoc, arith, None}
-use Rattle.std.specs.Prelude.{is_some}
 use Rattle.std.proofs.lemmas.List.{append-nil, take-append-drop}
 use Rattle.rack_outside.specs.Link.{Seen}
 use Rattle.message_framing.specs.declared.intake.Intake.{Intake}
@@ -25,7 +24,7 @@ fed_kept c intake held taken = record c { intake = intake; held = held; ring = [
 
 -- between replies, with want of memory
 pub silent_lacks : {H : Type 0} (V : Voice H) (T : Teller H) (s : Seen) (over : Bool) (given sent rest : List ℕ) (c : Kept) → c.ending.closing ≡ None
-    → Stands V T over given sent c.calls silent rest [] → EndsPlainly (is_some c.ending.late) why.NoMemory V T (past s c given sent over)
+    → Stands V T over given sent c.calls silent rest [] → EndsPlainly c.ending why.NoMemory V T (past s c given sent over)
 silent_lacks {H} V T s over given sent rest c none h =
     let n : c.calls ≡ c.calls + 0 = omega arith in (
       [],

@@ -219,7 +219,7 @@ module _ {B H : Type 0} (now : ℕ) (held peer : List ℕ) (local : Local) (live
     refl,
     sym e.2.sure ∙ e.2.answer,
     record { same = record { peer = refl; local = refl; lives = refl; taken = refl }; calls = refl; state = refl; why = refl },
-    record { ending = refl; last = refl; opened = refl; took = refl; filled = λ live. absurd (live refl); begun = refl; ring = refl },
+    record { ending = refl; last = refl; opened = refl; took = refl; filled = λ live. absurd (live refl); filled_or = inl refl; begun = refl; ring = refl },
   )
   fills_shown goes (at.Answering f) (at.Over why.Hijacked) x y room within e is by = absurd e
   fills_shown goes (at.Writing keeps) b x y room within e is by = same_place goes (at.Writing keeps) b x y e.0 e.1 is refl refl (same_front x.items y.items within (ap (λ (z : Buffer ℕ). z.items) e.1)) refl by

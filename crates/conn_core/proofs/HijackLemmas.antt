@@ -1,6 +1,6 @@
 -- What stands once a hijacker was told something.
 use Rattle.std.proofs.Common.{◌≡◌, ℕ, suc, ◌+◌, Bool, true, false, if◌then◌else◌, List, [], ◌++◌, refl, sym, ap, subst, ◌∙◌, append_assoc, arith, Some, inr, ◌-◌, ◌^◌, min, length}
-use Rattle.std.specs.Prelude.{is_some, ⊤}
+use Rattle.std.specs.Prelude.{⊤}
 use Rattle.std.proofs.lemmas.List.{append-nil}
 use Rattle.hijack_core.specs.declared.hijack.Said.{Said}
 use Rattle.hijack_core.specs.Said.{GoesOnAs}
@@ -44,6 +44,11 @@ no_drain : (goes : Bool) (level : ℕ) → goes ≡ false → NeedsDrain goes le
 no_drain true level e = cc
 no_drain false level e = tt
 
+-- nor was it told to leave
+no_leave : (goes left : Bool) → goes ≡ false → goes ≡ true → left ≡ true
+no_leave true left e f = cc
+no_leave false left e f = cc
+
 -- behind some bytes, and then behind more
 pub goes_then : {H : Type 0} (V : Voice H) (h now later : H) (bytes piece : List ℕ) → GoesOnAs (V.says h) (V.ends h) bytes (V.says now) (V.ends now)
     → GoesOnAs (V.says now) (V.ends now) piece (V.says later) (V.ends later)
@@ -70,13 +75,14 @@ module _ {H : Type 0} (V : Voice H) (T : Teller H) (s : Seen) (over : Bool) (giv
 
   -- it said its last, and all of it was sent
   pub parted : Stands V T over given sent k (hands_over r first) rest [] → NeedsDrain (goes_on V first rest over) c.ending.told
-      → EndsPlainly (is_some c.ending.late) why.Hijacked V T (past s c given sent over)
-  parted stands ends =
-      let x = whole_handed V T (past s c given sent over) rest r first k stands count closes in (first, rest, x.0, x.1, x.2, ends)
+      → (goes_on V first rest over ≡ true → c.ending.left ≡ true) → EndsPlainly c.ending why.Hijacked V T (past s c given sent over)
+  parted stands ends leaves =
+      let x = whole_handed V T (past s c given sent over) rest r first k stands count closes in
+      record { h = first; rest = rest; said = x.0; whole = x.1; sent = x.2; drain = ends; leaves = leaves }
 
   -- what is lacking of it, with want of memory
   pub unspoken : (lacks : List ℕ) → Stands V T over given sent k (hands_over r first) rest lacks
-      → EndsPlainly (is_some c.ending.late) why.NoMemory V T (past s c given sent over)
+      → EndsPlainly c.ending why.NoMemory V T (past s c given sent over)
   unspoken lacks stands =
       let n : c.calls ≡ k + 1 = omega (arith, count) in
       (lacks, record { word = hands_over r first; untimed = tt; partly = record { k = k; rest = rest; calls_is = n; stands = stands; closes = closes } })
@@ -112,6 +118,7 @@ module _ {B H : Type 0} (V : Voice H) (T : Teller H) (s : Seen) (over : Bool) (g
   told_at now piece ring left at.Parting e live same behind stands = record {
     handed = handed V T s over given sent c k r first rest count closes ring left (subst (λ (x : List ℕ). Stands V T over given sent k (hands_over r first) rest x) (sym e.0.ring_is) stands);
     ended = no_drain (goes_on V first rest over) c.ending.told (stops_on over (V.says first rest).go_on (same ∙ e.0.stops));
+    leaves = no_leave (goes_on V first rest over) c.ending.left (stops_on over (V.says first rest).go_on (same ∙ e.0.stops));
   }
   told_at now piece ring left (at.Over why.Closed) e live same behind stands = absurd e
   told_at now piece ring left (at.Over why.PeerEnd) e live same behind stands = absurd e
@@ -126,6 +133,7 @@ module _ {B H : Type 0} (V : Voice H) (T : Teller H) (s : Seen) (over : Bool) (g
   told_at now piece ring left (at.Over why.Hijacked) e live same behind stands =
       parted V T s over given sent c k r first rest count closes (subst (λ (x : List ℕ). Stands V T over given sent k (hands_over r first) rest x) (sym e.0.ring_is) stands)
       (no_drain (goes_on V first rest over) c.ending.told (stops_on over (V.says first rest).go_on (same ∙ e.0.stops)))
+      (no_leave (goes_on V first rest over) c.ending.left (stops_on over (V.says first rest).go_on (same ∙ e.0.stops)))
 
   -- it was told the peer's end
   pub told_end : (now : H) (ring left : List ℕ) (b : At B H) → TellsEnd V now b ring → over ≡ true
@@ -142,6 +150,7 @@ module _ {B H : Type 0} (V : Voice H) (T : Teller H) (s : Seen) (over : Bool) (g
   told_end now ring left at.Parting e ended stands = record {
     handed = handed V T s over given sent c k r first rest count closes ring left (subst (λ (x : List ℕ). Stands V T over given sent k (hands_over r first) rest x) (sym e.0) stands);
     ended = no_drain (goes_on V first rest over) c.ending.told (ap (λ (o : Bool). if o then false else (V.says first rest).go_on) ended);
+    leaves = no_leave (goes_on V first rest over) c.ending.left (ap (λ (o : Bool). if o then false else (V.says first rest).go_on) ended);
   }
   told_end now ring left (at.Over why.Closed) e ended stands = absurd e
   told_end now ring left (at.Over why.PeerEnd) e ended stands = absurd e
@@ -156,6 +165,7 @@ module _ {B H : Type 0} (V : Voice H) (T : Teller H) (s : Seen) (over : Bool) (g
   told_end now ring left (at.Over why.Hijacked) e ended stands =
       parted V T s over given sent c k r first rest count closes (subst (λ (x : List ℕ). Stands V T over given sent k (hands_over r first) rest x) e.0 stands)
       (no_drain (goes_on V first rest over) c.ending.told (ap (λ (o : Bool). if o then false else (V.says first rest).go_on) ended))
+      (no_leave (goes_on V first rest over) c.ending.left (ap (λ (o : Bool). if o then false else (V.says first rest).go_on) ended))
 
 -- a reply was sent whole, and its hijacker was told the bytes held
 pub hands_at : {B H : Type 0} (V : Voice H) (T : Teller H) (s : Seen) (over : Bool) (given sent : List ℕ) (c : Kept) (h : H) (ring left : List ℕ) (b : At B H)

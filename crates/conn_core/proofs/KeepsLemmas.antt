@@ -213,7 +213,7 @@ begun_from {B} {H} at.Refusing intake now before after m = m
 begun_from {B} {H} (at.Taken h) intake now before after m = m
 begun_from {B} {H} (at.Speaking h) intake now before after m = m
 begun_from {B} {H} at.Parting intake now before after m = m
-begun_from {B} {H} (at.Over w) intake now before after m = tt
+begun_from {B} {H} (at.Over w) intake now before after m = m
 
 begun_behind : {B H : Type 0} (b : At B H) (intake : Intake) (now : ℕ) (answer : LinkWrite) (before after : Option ℕ) → BeginsAs b intake now None after
     → BegunBy now (Write answer) (state_at b) before after
@@ -253,6 +253,14 @@ none_some xs some = grind (arith, nat_tests, some)
 some_none : (xs : List ℕ) → xs ≢ [] → no_bytes xs ≡ false
 some_none [] some = absurd (some refl)
 some_none (x ∷ xs) some = none_some (x ∷ xs) (omega arith)
+
+-- the moment is as before, or this one
+pub filled_either : (b : Bool) (now k : ℕ) → (filled_if b now k ≡ k) ⊎ (filled_if b now k ≡ now)
+filled_either true now k = inr refl
+filled_either false now k = inl refl
+
+either_then : {n k now j : ℕ} → (k ≡ j) ⊎ (k ≡ now) → n ≡ k → (n ≡ j) ⊎ (n ≡ now)
+either_then {n} {k} {now} {j} h e = elim h [ inl x ↦ inl (e ∙ x) | inr x ↦ inr (e ∙ x) ]
 
 -- bytes did not come into an empty ring
 not_filled : (x y : Bool) (now k : ℕ) → x ≡ false → y ≡ false → filled_if (x || y) now k ≡ k
@@ -404,7 +412,7 @@ begun_told {B} {H} at.Refusing now before t = absurd t
 begun_told {B} {H} (at.Taken h) now before t = refl
 begun_told {B} {H} (at.Speaking h) now before t = refl
 begun_told {B} {H} at.Parting now before t = refl
-begun_told {B} {H} (at.Over w) now before t = tt
+begun_told {B} {H} (at.Over w) now before t = refl
 
 run_unsaid : {B H : Type 0} (b d : At B H) (ring : List ℕ) → b ≡ d → state_at d ≡ state.Answering → ring ≡ [] → (o n : Shown)
     → ring_at b ring ≡ ring_by (state_at b) Run o n
@@ -437,6 +445,7 @@ module _ {B H : Type 0} (now : ℕ) (peer : List ℕ) (local : Local) (lives : L
       (shown_at a after held peer local lives calls taken m (record t { took = Some now }))
   some_keeps a before after held n is few off within some = record {
     ending = refl;
+    filled_or = inl refl;
     last = refl;
     opened = refl;
     took = refl;
@@ -454,6 +463,7 @@ module _ {B H : Type 0} (now : ℕ) (peer : List ℕ) (local : Local) (lives : L
       → Keeps now (Write write.NotYet) (shown_at a before held peer local lives calls taken m t) (shown_at a after held peer local lives calls taken m t)
   none_keeps a before after held is few same = record {
     ending = refl;
+    filled_or = inl refl;
     last = refl;
     opened = refl;
     took = refl;
@@ -470,6 +480,7 @@ module _ {B H : Type 0} (now : ℕ) (peer : List ℕ) (local : Local) (lives : L
       (shown_at {B = B} {H = H} (at.Over w) after left peer local lives calls taken m t)
   failed_keeps a w before after held left = record {
     ending = refl;
+    filled_or = inl refl;
     last = refl;
     opened = refl;
     took = refl;
@@ -483,6 +494,7 @@ module _ {B H : Type 0} (now : ℕ) (peer : List ℕ) (local : Local) (lives : L
       (shown_at {B = B} {H = H} (at.Over w) after left peer local lives calls taken m t)
   lacked_keeps a w before after held left = record {
     ending = refl;
+    filled_or = inl refl;
     last = refl;
     opened = refl;
     took = refl;
@@ -498,6 +510,7 @@ module _ {B H : Type 0} (now : ℕ) (peer : List ℕ) (local : Local) (lives : L
       (shown_at b ring left peer local lives calls taken m (filled_then now ring (record t { took = Some now; begun = g })))
   all_keeps a b before ring held left n new g is none unsaid begins = record {
     ending = refl;
+    filled_or = filled_either (not (no_bytes ring)) now t.filled;
     last = refl;
     opened = refl;
     took = refl;
@@ -516,6 +529,7 @@ module _ {B H : Type 0} (now : ℕ) (peer : List ℕ) (local : Local) (lives : L
       (shown_at b ring left peer local lives calls taken m (filled_then now ring (record t { took = Some now; begun = g })))
   more_keeps a b before ring held left n g is few off some saying same none unbegun = record {
     ending = refl;
+    filled_or = filled_either (not (no_bytes ring)) now t.filled;
     last = refl;
     opened = refl;
     took = refl;
@@ -570,6 +584,7 @@ module _ {B H : Type 0} (now : ℕ) (peer : List ℕ) (local : Local) (lives : L
       (shown_at b ring left peer local lives count taken (ending_run m held calls) (filled_then now ring t))
   run_keeps V a x b ask ps answer end held before ring left count begins hands none = record {
     ending = refl;
+    filled_or = filled_either (not (no_bytes ring)) now t.filled;
     last = refl;
     opened = refl;
     took = refl;
@@ -586,6 +601,7 @@ module _ {B H : Type 0} (now : ℕ) (peer : List ℕ) (local : Local) (lives : L
       (shown_at {B = B} {H = H} (at.Over w) ring left peer local lives calls taken m t)
   want_keeps a w before ring held left = record {
     ending = refl;
+    filled_or = inl refl;
     last = refl;
     opened = refl;
     took = refl;
@@ -599,7 +615,7 @@ module _ {B H : Type 0} (now : ℕ) (peer : List ℕ) (local : Local) (lives : L
       → Keeps now (Refusal fault) (shown_at a before held peer local lives calls taken m t)
       (shown_at {B = B} {H = H} at.Refusing ring held peer local lives calls taken m (record t { filled = now }))
   refusal_keeps a fault before ring held =
-      record { ending = refl; last = refl; opened = refl; took = refl; filled = λ live. refl; begun = refl; ring = refl }
+      record { ending = refl; filled_or = inr refl; last = refl; opened = refl; took = refl; filled = λ live. refl; begun = refl; ring = refl }
 
   -- bytes came, and were fed
   pub fed_keeps : (a b : At B H) (ring held left piece : List ℕ) (n count : ℕ) (old new : Intake) (g : Option ℕ) → FeedsHeld old piece new left b
@@ -608,6 +624,7 @@ module _ {B H : Type 0} (now : ℕ) (peer : List ℕ) (local : Local) (lives : L
       (shown_at b ring left peer local lives calls count m (record t { begun = g }))
   fed_keeps a b ring held left piece n count old new g f begins none = record {
     ending = refl;
+    filled_or = inl refl;
     last = refl;
     opened = refl;
     took = refl;
@@ -623,6 +640,7 @@ module _ {B H : Type 0} (now : ℕ) (peer : List ℕ) (local : Local) (lives : L
       (shown_at b ring left peer local lives calls count m (filled_then now ring t))
   heard_keeps V a b before ring held left piece n count is hands = record {
     ending = refl;
+    filled_or = filled_either (not (no_bytes ring)) now t.filled;
     last = refl;
     opened = refl;
     took = refl;
@@ -638,6 +656,7 @@ module _ {B H : Type 0} (now : ℕ) (peer : List ℕ) (local : Local) (lives : L
       (shown_at b ring left peer local lives calls taken m (filled_then now ring t))
   ended_keeps V a b before ring held left is ends = record {
     ending = refl;
+    filled_or = filled_either (not (no_bytes ring)) now t.filled;
     last = refl;
     opened = refl;
     took = refl;
@@ -652,6 +671,7 @@ module _ {B H : Type 0} (now : ℕ) (peer : List ℕ) (local : Local) (lives : L
       → Keeps now (Read read.NotYet) (shown_at a ring held peer local lives calls taken m t) (shown_at a ring left peer local lives calls taken m t)
   nothing_keeps a ring held left none unsaid = record {
     ending = refl;
+    filled_or = inl refl;
     last = refl;
     opened = refl;
     took = refl;
@@ -667,11 +687,11 @@ module _ {B H : Type 0} (now : ℕ) (peer : List ℕ) (local : Local) (lives : L
       (shown_at {B = B} {H = H} (at.Over w) ring left peer local lives calls taken m t)
   end_keeps a w (read.Bytes n) before ring held left e = elim e [ inl x ↦ cc | inr x ↦ cc ]
   end_keeps a w read.NotYet before ring held left e =
-      record { ending = refl; last = refl; opened = refl; took = refl; filled = λ live. absurd (live refl); begun = refl; ring = refl }
+      record { ending = refl; filled_or = inl refl; last = refl; opened = refl; took = refl; filled = λ live. absurd (live refl); begun = refl; ring = refl }
   end_keeps a w read.End before ring held left e =
-      record { ending = refl; last = refl; opened = refl; took = refl; filled = λ live. absurd (live refl); begun = refl; ring = refl }
+      record { ending = refl; filled_or = inl refl; last = refl; opened = refl; took = refl; filled = λ live. absurd (live refl); begun = refl; ring = refl }
   end_keeps a w read.Failed before ring held left e =
-      record { ending = refl; last = refl; opened = refl; took = refl; filled = λ live. absurd (live refl); begun = refl; ring = refl }
+      record { ending = refl; filled_or = inl refl; last = refl; opened = refl; took = refl; filled = λ live. absurd (live refl); begun = refl; ring = refl }
 
 -- a fill before a write changes nothing of what the write does to them
 says_same : (a : LinkWrite) (old mid new : Shown) → mid.owed ≡ old.owed → says_behind a mid new ≡ says_behind a old new
@@ -704,6 +724,10 @@ keeps_behind now a old mid new f some h = record {
       ∙ ap (λ (b : Bool). filled_if b now mid.moments.filled) (says_same a old mid new f.owed)
       ∙ ap (λ (t : Moments). filled_if (says_behind a old new) now t.filled) f.moments
       ∙ filled_twice (no_bytes old.ring) (says_behind a old new) now old.moments.filled;
+  filled_or = elim h.filled_or [
+    | inl same ↦ either_then (filled_either (no_bytes old.ring) now old.moments.filled) (same ∙ ap (λ (t : Moments). t.filled) f.moments)
+    | inr came ↦ inr came
+  ];
   begun = subst (λ (t : Moments). BegunBy now (Write a) new.state t.begun new.moments.begun) f.moments h.begun;
   ring = h.ring ∙ ring_same new.state a old mid new f.owed;
 }

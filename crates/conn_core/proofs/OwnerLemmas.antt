@@ -1,6 +1,6 @@
 -- What stands where no byte was ever read.
 use Rattle.std.proofs.Common.{◌≡◌, ◌≢◌, ℕ, ◌+◌, ◌-◌, ◌^◌, ◌<◌, ◌≤◌, min, zero, suc, Bool, true, false, List, [], ◌∷◌, ◌++◌, length, refl, sym, ap, subst, ◌∙◌, arith, length-append, Option, None, Some, inl, inr}
-use Rattle.std.specs.Prelude.{is_some, ◌==◌, if◌then◌else◌}
+use Rattle.std.specs.Prelude.{is_some, ◌==◌}
 use Rattle.std.proofs.lemmas.Bool.Decides.{nat_tests}
 use Rattle.std.specs.Prelude.{slice_index_or}
 use Rattle.std.proofs.lemmas.List.{append-nil, nil_from_length}
@@ -29,7 +29,7 @@ use Rattle.talk_core.specs.Tail.{Voice, goes_on}
 use Rattle.talk_core.specs.Talk.{Asks, Stop, wanting, hijacked, replies_to}
 use Rattle.talk_core.specs.Teller.{Stacks, Teller, tell, last_phase}
 use Rattle.conn_core.specs.declared.inside.Inside.{Inside}
-use Rattle.talk_core.proofs.CallerLemmas.{stands_timed}
+use Rattle.talk_core.proofs.CallerLemmas.{stands_timed, asks_snoc}
 use Rattle.conn_core.specs.declared.moments.Ending.{Ending}
 use Rattle.conn_core.specs.declared.moments.Late.{Late}
 use Rattle.conn_core.specs.declared.place.At.{At}
@@ -37,12 +37,12 @@ use Rattle.conn_core.specs.declared.place.At.TheVariants as at
 use Rattle.conn_core.specs.declared.state.State.{State}
 use Rattle.conn_core.specs.declared.state.State.TheVariants as state
 use Rattle.conn_core.specs.Holds.{Kept, kept, past, Between, Replying, Handed, Refuses, HoldsAt, StandsAt, HoldsBy}
-use Rattle.conn_core.specs.Owner.{IsUnread, PlacedIn, ReadsOn, ended_as, drained, drained_from, drained_in, drained_reading}
+use Rattle.conn_core.specs.Owner.{IsUnread, PlacedIn, ReadsOn, StandsNext, drained, drained_from, drained_in, drained_hijacked, drained_reading}
 use Rattle.conn_core.specs.Place.{state_at, left_at}
 use Rattle.conn_core.specs.Plain.{EndsPlainly}
 use Rattle.conn_core.specs.Rests.{GoesOn, after_of, RestsAt, BegunAs, Begins}
 use Rattle.conn_core.specs.Keeps.{BegunNow, no_bytes}
-use Rattle.conn_core.specs.Shown.{Shown, shows, owed_at}
+use Rattle.conn_core.specs.Shown.{Shown, shows, owed_at, fault_at}
 use Rattle.conn_core.proofs.ConnLemmas.{Part, PartOf, live_part}
 use Rattle.conn_core.proofs.HijackLemmas.{parted}
 use Rattle.conn_core.proofs.PlaceLemmas.{over_same, unclosed}
@@ -207,7 +207,7 @@ given_some taken given counts some none = omega (arith, counts, some, ap length 
 module _ {H : Type 0} (V : Voice H) (T : Teller H) (s : Seen) (over : Bool) (given sent : List ℕ) (c : Kept) where
   -- idle, where nothing is begun
   idle_ends : (now : List ℕ) (by : IdleBy) → Wanting now → ¬ (Begun now) → c.held ≡ [] → Between V T over given sent c now
-      → IdleAs by (past s c given sent over) → EndsPlainly (is_some c.ending.late) (why.Idle by) V T (past s c given sent over)
+      → IdleAs by (past s c given sent over) → EndsPlainly c.ending (why.Idle by) V T (past s c given sent over)
   idle_ends now by waits unbegun none h idle =
       (now, sent_whole V T s c given sent over over now waits none h.stands (unclosed c.ending h.unended), unbegun, idle)
 
@@ -281,7 +281,7 @@ stalled_holds {B} {H} {g} V T s p c since now live some passed n t m h =
       shows = h.shows;
       counts = t ∙ h.counts;
       at = over_same (why.Stalled since now) V T s h.over h.given h.sent (kept p) c n m
-          (owed_at p.at p.ring.items, record { word = part.word; partly = part.partly }, some, passed);
+          (owed_at p.at p.ring.items, record { word = part.word; untimed = part.timed; partly = part.partly }, some, passed);
     }
 
 before_nil : (xs ys : List ℕ) → xs ++ ys ≡ [] → xs ≡ []
@@ -334,14 +334,14 @@ told_holds {B} {H} V T s peer a c level some h = record {
         → SentWhole T (past s d h.given h.sent h.over) stop rest said
     whole stop rest said x = record { asked = x.asked; talk = x.talk; calls_is = x.calls_is; said_is = x.said_is; closes = x.closes }
 
-    ends : (w : Why) → EndsPlainly (is_some c.ending.late) w V T (past s c h.given h.sent h.over)
-        → EndsPlainly (is_some c.ending.late) w V T (past s d h.given h.sent h.over)
+    ends : (w : Why) → EndsPlainly c.ending w V T (past s c h.given h.sent h.over)
+        → EndsPlainly c.ending w V T (past s d h.given h.sent h.over)
     ends why.Closed x = (x.0, x.1, x.2, whole x.0 x.1 h.sent x.3)
     ends why.PeerEnd x = (x.0, whole wanting x.0 h.sent x.1, x.2)
     ends (why.Idle (Clock since now)) x = (x.0, whole wanting x.0 h.sent x.1, x.2, x.3)
     ends (why.Idle (Drain told)) x = (x.0, whole wanting x.0 h.sent x.1, x.2, x.3)
     ends (why.TimedOut since now) x = (x.0, x.1, whole wanting x.0 x.1 x.2, x.3, x.4, x.5)
-    ends (why.Stalled since now) x = (x.0, record { word = x.1.word; partly = x.1.partly }, x.2, x.3)
+    ends (why.Stalled since now) x = (x.0, record { word = x.1.word; untimed = x.1.untimed; partly = x.1.partly }, x.2, x.3)
     ends (why.Unread told) x = x
     ends why.ReadFailed x = (
       x.0,
@@ -351,16 +351,17 @@ told_holds {B} {H} V T s peer a c level some h = record {
       ],
     )
     ends why.WriteFailed x = (x.0, (x.1.0, record { word = x.1.1.word; untimed = x.1.1.untimed; partly = x.1.1.partly }, x.1.2))
-    ends (why.Halted told) x = (x.0, (x.1.0, record { word = x.1.1.word; partly = x.1.1.partly }))
+    ends (why.Halted told) x = (x.0, (x.1.0, record { word = x.1.1.word; untimed = x.1.1.untimed; partly = x.1.1.partly }))
     ends why.NoMemory x = (x.0, record { word = x.1.word; untimed = x.1.untimed; partly = x.1.partly })
-    ends why.Hijacked x = (
-      x.0,
-      x.1,
-      x.2,
-      record { whole = whole hijacked x.1 x.2 x.3.whole; hijacker = x.3.hijacker },
-      x.4,
-      drained (goes_on V x.0 x.1 h.over),
-    )
+    ends why.Hijacked x = record {
+      h = x.h;
+      rest = x.rest;
+      said = x.said;
+      whole = record { whole = whole hijacked x.rest x.said x.whole.whole; hijacker = x.whole.hijacker };
+      sent = x.sent;
+      drain = drained (goes_on V x.h x.rest h.over);
+      leaves = x.leaves;
+    }
 
     go : (b : At B H) → HoldsAt b V T s h.over h.given h.sent c → HoldsAt b V T s h.over h.given h.sent d
     go at.Reading x = (x.0, x.1, x.2, between x.0 x.3)
@@ -385,42 +386,83 @@ told_holds {B} {H} V T s peer a c level some h = record {
     go at.Parting x = record {
       handed = record { k = x.handed.k; request = x.handed.request; first = x.handed.first; rest = x.handed.rest; count = x.handed.count; closes = x.handed.closes; stands = x.handed.stands };
       ended = drained (goes_on V x.handed.first x.handed.rest h.over);
+      leaves = x.leaves;
     }
     go (at.Over w) x = ends w x
 
 -- a hijacker that was told to leave
 pub left_holds : {B H : Type 0} (V : Voice H) (T : Teller H) (s : Seen) (peer : List ℕ) (a : At B H) (c : Kept) → 1 ≤ c.ending.told
-    → RestsAt a c.intake c.held c.ring c.calls c.ending → StandsAt V T s peer a c → StandsAt V T s peer (left_at a) c
-left_holds {B} {H} V T s peer a c some rests h = record {
+    → state_at a ≡ state.Hijacked → RestsAt a c.intake c.held c.ring c.calls c.ending → StandsAt V T s peer a c
+    → StandsAt V T s peer (left_at a) (record c { ending = record c.ending { left = true } })
+left_holds {B} {H} V T s peer a c some held rests h = record {
   given = h.given;
   sent = h.sent;
   over = h.over;
   shows = h.shows;
   counts = h.counts;
-  at = go a rests h.at;
+  at = go a held rests h.at;
 }
   where
+    d : Kept
+    d = record c { ending = record c.ending { left = true } }
+
     drained : (goes : Bool) → NeedsDrain goes c.ending.told
     drained true = some
     drained false = tt
 
-    go : (b : At B H) → RestsAt b c.intake c.held c.ring c.calls c.ending → HoldsAt b V T s h.over h.given h.sent c
-        → HoldsAt (left_at b) V T s h.over h.given h.sent c
-    go at.Reading r x = x
-    go at.Asked r x = x
-    go (at.Refused f) r x = x
-    go (at.Answering f) r x = x
-    go (at.Writing keeps) r x = x
-    go (at.Handing who) r x = x
-    go at.Refusing r x = x
-    go (at.Taken who) r x =
+    go : (b : At B H) → state_at b ≡ state.Hijacked → RestsAt b c.intake c.held c.ring c.calls c.ending → HoldsAt b V T s h.over h.given h.sent c
+        → HoldsAt (left_at b) V T s h.over h.given h.sent d
+    go at.Reading e r x = cc
+    go at.Asked e r x = cc
+    go (at.Refused f) e r x = cc
+    go (at.Answering f) e r x = cc
+    go (at.Writing keeps) e r x = cc
+    go (at.Handing who) e r x = cc
+    go at.Refusing e r x = cc
+    go (at.Taken who) e r x =
         let q : Handed V T h.over h.given h.sent c = x.handed in
-        parted V T s h.over h.given h.sent c q.k q.request q.first q.rest q.count q.closes
+        parted V T s h.over h.given h.sent d q.k q.request q.first q.rest q.count q.closes
         (subst (λ (y : List ℕ). Stands V T h.over h.given h.sent q.k (hands_over q.request q.first) q.rest y) r.1 q.stands)
-        (drained (goes_on V q.first q.rest h.over))
-    go (at.Speaking who) r x = record { handed = x.handed; ended = drained (goes_on V x.handed.first x.handed.rest h.over) }
-    go at.Parting r x = x
-    go (at.Over w) r x = x
+        (drained (goes_on V q.first q.rest h.over)) (λ goes. refl)
+    go (at.Speaking who) e r x = record {
+      handed = record { k = x.handed.k; request = x.handed.request; first = x.handed.first; rest = x.handed.rest; count = x.handed.count; closes = x.handed.closes; stands = x.handed.stands };
+      ended = drained (goes_on V x.handed.first x.handed.rest h.over);
+      leaves = λ goes. refl;
+    }
+    go at.Parting e r x = record {
+      handed = record { k = x.handed.k; request = x.handed.request; first = x.handed.first; rest = x.handed.rest; count = x.handed.count; closes = x.handed.closes; stands = x.handed.stands };
+      ended = x.ended;
+      leaves = λ goes. refl;
+    }
+    go (at.Over w) e r x = cc
+
+-- safety behind it
+pub left_rests : {B H : Type 0} (a : At B H) (intake : Intake) (held ring : List ℕ) (calls : ℕ) (e m : Ending) → state_at a ≡ state.Hijacked
+    → RestsAt a intake held ring calls e → RestsAt (left_at a) intake held ring calls m
+left_rests {B} {H} at.Reading intake held ring calls e m is h = cc
+left_rests {B} {H} at.Asked intake held ring calls e m is h = cc
+left_rests {B} {H} (at.Refused f) intake held ring calls e m is h = cc
+left_rests {B} {H} (at.Answering f) intake held ring calls e m is h = cc
+left_rests {B} {H} (at.Writing keeps) intake held ring calls e m is h = cc
+left_rests {B} {H} (at.Handing who) intake held ring calls e m is h = cc
+left_rests {B} {H} at.Refusing intake held ring calls e m is h = cc
+left_rests {B} {H} (at.Taken who) intake held ring calls e m is h = tt
+left_rests {B} {H} (at.Speaking who) intake held ring calls e m is h = h.1
+left_rests {B} {H} at.Parting intake held ring calls e m is h = h
+left_rests {B} {H} (at.Over w) intake held ring calls e m is h = cc
+
+pub left_begins : {B H : Type 0} (a : At B H) (intake : Intake) (begun : Option ℕ) → state_at a ≡ state.Hijacked → Begins (left_at a) intake begun
+left_begins {B} {H} at.Reading intake begun is = cc
+left_begins {B} {H} at.Asked intake begun is = cc
+left_begins {B} {H} (at.Refused f) intake begun is = cc
+left_begins {B} {H} (at.Answering f) intake begun is = cc
+left_begins {B} {H} (at.Writing keeps) intake begun is = cc
+left_begins {B} {H} (at.Handing who) intake begun is = cc
+left_begins {B} {H} at.Refusing intake begun is = cc
+left_begins {B} {H} (at.Taken who) intake begun is = tt
+left_begins {B} {H} (at.Speaking who) intake begun is = tt
+left_begins {B} {H} at.Parting intake begun is = tt
+left_begins {B} {H} (at.Over w) intake begun is = cc
 
 -- safety rests on nothing that is told of a drain
 goes_on_told : (after : After) (intake : Intake) (calls : ℕ) (e : Ending) (told : ℕ) → GoesOn after intake calls e → GoesOn after intake calls (record e { told = told })
@@ -462,6 +504,35 @@ reads_on {B} {H} {g} V T s p reading h =
       begun = subst (λ (a : At B H). Begins a p.intake p.moments.begun) is p.begins x.0 x.3.fed;
     }
 
+-- the place where a request stands
+asked_place : {B H : Type 0} (a : At B H) → state_at a ≡ state.Ready → fault_at a ≡ None → a ≡ at.Asked
+asked_place {B} {H} at.Reading e f = cc
+asked_place {B} {H} at.Asked e f = refl
+asked_place {B} {H} (at.Refused fault) e f = cc
+asked_place {B} {H} (at.Answering framer) e f = cc
+asked_place {B} {H} (at.Writing keeps) e f = cc
+asked_place {B} {H} (at.Handing who) e f = cc
+asked_place {B} {H} at.Refusing e f = cc
+asked_place {B} {H} (at.Taken who) e f = cc
+asked_place {B} {H} (at.Speaking who) e f = cc
+asked_place {B} {H} at.Parting e f = cc
+asked_place {B} {H} (at.Over w) e f = cc
+
+pub stands_next : {B H : Type 0} {g : Ghosts B} (V : Voice H) (T : Teller H) (s : Seen) (p : Inside B H g) → state_at p.at ≡ state.Ready → fault_at p.at ≡ None
+    → HoldsBy V T s p → StandsNext s (shows p)
+stands_next {B} {H} {g} V T s p ready none h =
+    let x = subst (λ (a : At B H). HoldsAt a V T s h.over h.given h.sent (kept p)) (asked_place p.at ready none) h.at in
+    let stands = x.3.stands in
+    let one : length (stands.whole ++ x.1 ∷ []) ≡ p.calls + 1 = omega (arith, stands.count, length-append stands.whole (x.1 ∷ [])) in
+    record {
+      given = h.given;
+      asked = stands.whole ++ x.1 ∷ [];
+      given_is = h.shows.given_is;
+      asks = asks_snoc stands.whole h.given (x.0 ++ p.held) x.0 p.held x.1
+          (subst (λ (rs : List Parts). Asks h.given rs (x.0 ++ p.held)) (append-nil stands.whole) stands.asks) refl x.2;
+      next = one;
+    }
+
 -- no request is begun at the opening
 pub fresh_begun : (intake : Intake) (now : ℕ) (begun : Option ℕ) → Fed intake [] → ((b : List ℕ) → Fed intake b → BegunAs begun b) → BegunNow now None begun
     → begun ≡ None
@@ -495,7 +566,7 @@ drained_parts level c = from c.taken
     reading None = (refl, refl, refl, refl)
     reading (Some since) = (refl, refl, refl, refl)
 
-    hijacked : (b : Bool) → SameParts c (if b then ended_as why.Hijacked d else record d { after = Close })
+    hijacked : (b : Bool) → SameParts c (drained_hijacked b (record d { ending = record d.ending { left = true } }))
     hijacked true = (refl, refl, refl, refl)
     hijacked false = (refl, refl, refl, refl)
 

@@ -1,6 +1,6 @@
 -- What stands at a place, by an equation of the place.
 use Rattle.std.proofs.Common.{◌≡◌, ℕ, Bool, List, refl, ap, sym, ◌∙◌, subst, Option, None, Some, inl}
-use Rattle.std.specs.Prelude.{is_some, ⊤}
+use Rattle.std.specs.Prelude.{⊤}
 use Rattle.rack_outside.specs.Link.{Seen}
 use Rattle.message_framing.specs.declared.intake.Intake.{Intake}
 use Rattle.talk_core.specs.declared.ended.Why.{Why}
@@ -34,11 +34,11 @@ kept_same c d i e r n t m =
 
 -- what is kept where only its end is told of
 pub over_same : {H : Type 0} (ended : Why) (V : Voice H) (T : Teller H) (s : Seen) (over : Bool) (given sent : List ℕ) (c d : Kept) → d.calls ≡ c.calls
-    → d.ending ≡ c.ending → EndsPlainly (is_some c.ending.late) ended V T (past s c given sent over)
-    → EndsPlainly (is_some d.ending.late) ended V T (past s d given sent over)
+    → d.ending ≡ c.ending → EndsPlainly c.ending ended V T (past s c given sent over)
+    → EndsPlainly d.ending ended V T (past s d given sent over)
 over_same {H} ended V T s over given sent c d n m h =
-    subst (λ (x : Ending). EndsPlainly (is_some x.late) ended V T (past s (record d { ending = x }) given sent over)) (sym m)
-    (subst (λ (x : ℕ). EndsPlainly (is_some c.ending.late) ended V T (past s (record d { calls = x; ending = c.ending }) given sent over)) (sym n) h)
+    subst (λ (x : Ending). EndsPlainly x ended V T (past s (record d { ending = x }) given sent over)) (sym m)
+    (subst (λ (x : ℕ). EndsPlainly c.ending ended V T (past s (record d { calls = x; ending = c.ending }) given sent over)) (sym n) h)
 
 -- where nothing ends a connection, no reply closes it by draining and no request took too long
 pub absent : {A : Type 0} (o : Option A) → IsAbsent o → o ≡ None

@@ -1,6 +1,5 @@
 -- What stands for one talk stands for another whose replies are the same to the requests that were run.
 use Rattle.std.proofs.Common.{◌≡◌, ℕ, suc, ◌≤◌, Bool, List, [], ◌++◌, sym, ap, subst, ◌∙◌, arith, Option, None, Some}
-use Rattle.std.specs.Prelude.{is_some}
 use Rattle.rack_types.specs.declared.body.Body.{Ghosts}
 use Rattle.rack_types.specs.Request.{Parts}
 use Rattle.rack_outside.specs.Link.{Seen}
@@ -12,7 +11,7 @@ use Rattle.talk_core.specs.declared.ended.Why.TheVariants as why
 use Rattle.talk_core.specs.Stands.{silent, replies, refuses, times_out, hands_over}
 use Rattle.talk_core.specs.Tail.{Voice}
 use Rattle.talk_core.specs.Teller.{Teller, AgreesBelow}
-use Rattle.talk_core.proofs.CallerLemmas.{stands_agrees, partly_agrees, ends_agrees, agrees_same, agrees_trans, closes_for}
+use Rattle.talk_core.proofs.CallerLemmas.{stands_agrees, partly_agrees, whole_to_agrees, ends_agrees, agrees_same, agrees_trans, closes_for}
 use Rattle.conn_core.specs.declared.inside.Inside.{Inside}
 use Rattle.conn_core.specs.declared.moments.Late.{Late}
 use Rattle.conn_core.specs.declared.place.At.{At}
@@ -54,12 +53,21 @@ module _ {H : Type 0} (V : Voice H) (T U : Teller H) (s : Seen) (over : Bool) (g
   here : (k : ℕ) (r : Parts) → c.calls ≡ suc k → T k r ≡ U k r
   here k r count = same k (omega (arith, count)) r
 
-  ends_so : (w : Why) → EndsPlainly (is_some c.ending.late) w V T (past s c given sent over) → EndsPlainly (is_some c.ending.late) w V U (past s c given sent over)
+  ends_so : (w : Why) → EndsPlainly c.ending w V T (past s c given sent over) → EndsPlainly c.ending w V U (past s c given sent over)
   ends_so why.Closed e = ends_agrees T U why.Closed V (past s c given sent over) same e
   ends_so why.PeerEnd e = ends_agrees T U why.PeerEnd V (past s c given sent over) same e
   ends_so (why.Idle by) e = ends_agrees T U (why.Idle by) V (past s c given sent over) same e
   ends_so (why.TimedOut since moment) e = ends_agrees T U (why.TimedOut since moment) V (past s c given sent over) same e
-  ends_so (why.Stalled since moment) e = ends_agrees T U (why.Stalled since moment) V (past s c given sent over) same e
+  ends_so (why.Stalled since moment) e = (
+    e.0,
+    record {
+      word = e.1.word;
+      untimed = e.1.untimed;
+      partly = partly_agrees T U V over given sent c.calls c.ending.closing e.1.word e.0 same e.1.partly;
+    },
+    e.2,
+    e.3,
+  )
   ends_so (why.Unread level) e = ends_agrees T U (why.Unread level) V (past s c given sent over) same e
   ends_so why.ReadFailed e = ends_agrees T U why.ReadFailed V (past s c given sent over) same e
   ends_so why.WriteFailed e = (
@@ -74,7 +82,17 @@ module _ {H : Type 0} (V : Voice H) (T U : Teller H) (s : Seen) (over : Bool) (g
       e.1.2,
     ),
   )
-  ends_so (why.Halted level) e = ends_agrees T U (why.Halted level) V (past s c given sent over) same e
+  ends_so (why.Halted level) e = (
+    e.0,
+    (
+      e.1.0,
+      record {
+        word = e.1.1.word;
+        untimed = e.1.1.untimed;
+        partly = partly_agrees T U V over given sent c.calls c.ending.closing e.1.1.word e.1.0 same e.1.1.partly;
+      },
+    ),
+  )
   ends_so why.NoMemory e = (
     e.0,
     record {
@@ -83,7 +101,15 @@ module _ {H : Type 0} (V : Voice H) (T U : Teller H) (s : Seen) (over : Bool) (g
       partly = partly_agrees T U V over given sent c.calls c.ending.closing e.1.word e.0 same e.1.partly;
     },
   )
-  ends_so why.Hijacked e = ends_agrees T U why.Hijacked V (past s c given sent over) same e
+  ends_so why.Hijacked e = record {
+    h = e.h;
+    rest = e.rest;
+    said = e.said;
+    whole = whole_to_agrees T U (past s c given sent over) e.h e.rest e.said same e.whole;
+    sent = e.sent;
+    drain = e.drain;
+    leaves = e.leaves;
+  }
 
   refuses_agrees : (late : Option Late) → Refuses late V T over given sent c → Refuses late V U over given sent c
   refuses_agrees None h = (
@@ -125,7 +151,7 @@ module _ {H : Type 0} (V : Voice H) (T U : Teller H) (s : Seen) (over : Bool) (g
   )
   retold_at {B} (at.Taken who) h = record { handed = handed_agrees h.handed; live = h.live; goes = h.goes; behind = h.behind }
   retold_at {B} (at.Speaking who) h = record { handed = handed_agrees h.handed; live = h.live; goes = h.goes; behind = h.behind }
-  retold_at {B} at.Parting h = record { handed = handed_agrees h.handed; ended = h.ended }
+  retold_at {B} at.Parting h = record { handed = handed_agrees h.handed; ended = h.ended; leaves = h.leaves }
   retold_at {B} at.Refusing h = refuses_agrees c.ending.late h
   retold_at {B} (at.Over w) h = ends_so w h
 

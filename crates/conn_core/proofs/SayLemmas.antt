@@ -153,7 +153,7 @@ saying {B} {H} at.Parting V T s over given sent c x h =
       calls_is = n;
       closes = q.closes;
       stands = subst (λ (y : List ℕ). Stands V T over given sent q.k (hands_over q.request q.first) q.rest y) (sym (append-nil c.ring)) q.stands;
-      back = λ s' sent' ring' t. record { handed = handed_back V T over given sent sent' c ring' q t; ended = h.ended };
+      back = λ s' sent' ring' t. record { handed = handed_back V T over given sent sent' c ring' q t; ended = h.ended; leaves = h.leaves };
     }
 saying {B} {H} (at.Over ended) V T s over given sent c x h = absurd x
 

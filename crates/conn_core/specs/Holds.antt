@@ -1,5 +1,5 @@
 -- What a connection stands for between its steps, by where it is.
-use Rattle.std.specs.Prelude.{◌≡◌, ℕ, suc, ◌-◌, ◌^◌, min, ◌+◌, ◌≤◌, Bool, true, false, List, [], ◌++◌, length, Option, None, Some, is_some, ⊤}
+use Rattle.std.specs.Prelude.{◌≡◌, ℕ, suc, ◌-◌, ◌^◌, min, ◌+◌, ◌≤◌, Bool, true, false, List, [], ◌++◌, length, Option, None, Some, ⊤}
 use Rattle.rack_types.specs.declared.fault.Fault.{Fault}
 use Rattle.rack_types.specs.Limits.{stock_limits}
 use Rattle.rack_types.specs.Request.{Parts}
@@ -90,6 +90,7 @@ pub record Hears {H : Type 0} (V : Voice H) (T : Teller H) (over : Bool) (given 
 pub record SaidLast {H : Type 0} (V : Voice H) (T : Teller H) (over : Bool) (given sent : List ℕ) (c : Kept) : Type 0 where
   pub handed : Handed V T over given sent c
   pub ended : NeedsDrain (goes_on V handed.first handed.rest over) c.ending.told
+  pub leaves : goes_on V handed.first handed.rest over ≡ true → c.ending.left ≡ true
 
 -- the reply that names a refusal is in the ring, or the one that says that a request took too long
 abbrev pub Refuses : {H : Type 0} → Option Late → Voice H → Teller H → Bool → List ℕ → List ℕ → Kept → Type 0
@@ -116,7 +117,7 @@ HoldsAt {B} {H} at.Refusing V T s over given sent c = Refuses c.ending.late V T 
 HoldsAt {B} {H} (at.Taken h) V T s over given sent c = Hears V T over given sent c h
 HoldsAt {B} {H} (at.Speaking h) V T s over given sent c = Hears V T over given sent c h
 HoldsAt {B} {H} at.Parting V T s over given sent c = SaidLast V T over given sent c
-HoldsAt {B} {H} (at.Over why) V T s over given sent c = EndsPlainly (is_some c.ending.late) why V T (past s c given sent over)
+HoldsAt {B} {H} (at.Over why) V T s over given sent c = EndsPlainly c.ending why V T (past s c given sent over)
 
 -- a connection at this place stands for its talk, over these replies: what its link tells, and what it keeps
 pub record StandsAt {B H : Type 0} (V : Voice H) (T : Teller H) (s : Seen) (peer : List ℕ) (a : At B H) (c : Kept) : Type 0 where

@@ -1,5 +1,5 @@
 -- What each move of a connection does to its ring, to what was told of its end, and to the moments that it keeps.
-use Rattle.std.specs.Prelude.{◌≡◌, ◌≢◌, ℕ, ◌<◌, ◌≤◌, nat_lt, Bool, false, ◌&&◌, ◌||◌, not, if◌then◌else◌, ◌==◌, List, [], length, take, drop, Option, None, Some, ◌⊎◌, ⊤}
+use Rattle.std.specs.Prelude.{◌≡◌, ◌≢◌, ℕ, ◌<◌, ◌≤◌, nat_lt, Bool, false, ◌&&◌, ◌||◌, not, if◌then◌else◌, ◌==◌, List, [], length, take, drop, Option, None, Some, ◌⊎◌}
 use Rattle.rack_types.specs.declared.fault.Fault.{Fault}
 use Rattle.rack_outside.specs.declared.link.LinkRead.{LinkRead}
 use Rattle.rack_outside.specs.declared.link.LinkRead.TheVariants as read
@@ -88,7 +88,7 @@ BegunFrom state.Reading now before after = BegunNow now before after
 BegunFrom state.Ready now before after = after ≡ None
 BegunFrom state.Answering now before after = after ≡ before
 BegunFrom state.Hijacked now before after = after ≡ before
-BegunFrom state.Over now before after = ⊤
+BegunFrom state.Over now before after = after ≡ before
 
 -- where none is to be read none may be kept
 abbrev pub BegunStill : Option ℕ → Option ℕ → Type 0
@@ -137,6 +137,7 @@ pub record Keeps (now : ℕ) (move : Move) (old new : Shown) : Type 0 where
   pub opened : new.moments.opened ≡ old.moments.opened
   pub took : new.moments.took ≡ took_by now move old.moments.took
   pub filled : new.state ≢ state.Over → new.moments.filled ≡ filled_by now move old new
+  pub filled_or : (new.moments.filled ≡ old.moments.filled) ⊎ (new.moments.filled ≡ now)
   pub begun : BegunBy now move new.state old.moments.begun new.moments.begun
   pub ring : new.ring ≡ ring_by new.state move old new
 

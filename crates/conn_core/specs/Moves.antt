@@ -50,6 +50,7 @@ pub record NamesFault (fault : Fault) (old new : Shown) : Type 0 where
   pub state : new.state ≡ state.Answering
   pub why : new.why ≡ None
   pub owed : new.owed ≡ fault_reply fault
+  pub held : new.held ≡ old.held
   pub after : new.after ≡ Close
   pub sure : new.sure ≡ true
 

@@ -1,5 +1,5 @@
 -- A connection at its start, and one that could not be opened.
-use Rattle.std.specs.Prelude.{◌≡◌, ℕ, true, List, [], ◌∷◌, None}
+use Rattle.std.specs.Prelude.{◌≡◌, ℕ, true, false, List, [], ◌∷◌, None}
 use Rattle.rack_types.specs.declared.peer.Local.{Local}
 use Rattle.rack_types.specs.declared.body.Body.{Ghosts}
 use Rattle.message_framing.specs.Intake.{Fed}
@@ -15,7 +15,7 @@ use Rattle.conn_core.specs.Shown.{Shown}
 
 -- nothing was told of its end
 abbrev pub untold : Ending
-untold = record { told = 0; closing = None; late = None }
+untold = record { told = 0; closing = None; late = None; left = false }
 
 -- the moments at the opening
 abbrev pub first_moments : ℕ → Moments

@@ -1,6 +1,6 @@
 -- What a connection's owner does with it beside moving it on: it ends it, places it anew, tells it the time or a drain, or
 -- lends its link out.
-use Rattle.std.specs.Prelude.{◌≡◌, ◌≢◌, ℕ, zero, suc, true, if◌then◌else◌, List, [], ◌∷◌, length, Option, None, Some, ◌⊎◌, ⊤}
+use Rattle.std.specs.Prelude.{◌≡◌, ◌≢◌, ℕ, ◌+◌, zero, suc, Bool, true, false, List, [], ◌∷◌, length, Option, None, Some, ◌⊎◌, ⊤}
 use Rattle.rack_types.specs.declared.fault.Fault.TheVariants.{T1}
 use Rattle.rack_types.specs.Limits.{stock_limits}
 use Rattle.reply_framing.specs.declared.types.After.TheVariants.{Keep, Close}
@@ -99,11 +99,15 @@ abbrev pub drained_reading : Option ℕ → ℕ → Shown → Shown
 drained_reading None level c = ended_as (why.Idle (Drain level)) c
 drained_reading (Some since) level c = c
 
+abbrev pub drained_hijacked : Bool → Shown → Shown
+drained_hijacked true c = ended_as why.Hijacked c
+drained_hijacked false c = record c { after = Close }
+
 abbrev pub drained_in : State → ℕ → Shown → Shown
 drained_in state.Reading level c = drained_reading c.moments.begun level c
 drained_in state.Ready level c = c
 drained_in state.Answering level c = c
-drained_in state.Hijacked level c = if no_bytes c.owed then ended_as why.Hijacked c else record c { after = Close }
+drained_in state.Hijacked level c = drained_hijacked (no_bytes c.owed) (record c { ending = record c.ending { left = true } })
 drained_in state.Over level c = c
 
 -- one of which no byte was ever read stays as it is
@@ -134,5 +138,14 @@ pub record ReadsOn (s : Seen) (c : Shown) : Type 0 where
   pub waits : Wanting rest
   pub begun : BegunAs c.moments.begun rest
 
-abbrev pub BeginsRightly : Seen → Shown → Type 0
-BeginsRightly s c = c.state ≡ state.Reading → ReadsOn s c
+-- where a request stands: those before it in the bytes that came were run, and the bytes held are all that stand behind it
+pub record StandsNext (s : Seen) (c : Shown) : Type 0 where
+  pub given : List ℕ
+  pub asked : List Parts
+  pub given_is : Tells s.given given
+  pub asks : Asks given asked c.held
+  pub next : length asked ≡ c.calls + 1
+
+pub record BeginsRightly (s : Seen) (c : Shown) : Type 0 where
+  pub reads : c.state ≡ state.Reading → ReadsOn s c
+  pub stands : c.state ≡ state.Ready → c.fault ≡ None → StandsNext s c

@@ -9,7 +9,7 @@ ghost use Rattle.conn_core.specs.Holds.{Holds, HoldsWith};
 ghost use Rattle.conn_core.specs.Keeps.{reaching};
 ghost use Rattle.conn_core.specs.Moves.{IsOwing};
 ghost use Rattle.conn_core.specs.Owner.{BeginsRightly};
-ghost use Rattle.conn_core.specs.Plain.{IsPlainEnd};
+ghost use Rattle.conn_core.specs.Plain.{IsPlainEnd, EndsOver};
 ghost use Rattle.conn_core.specs.Runs.{RunsOn};
 ghost use Rattle.conn_core.specs.Shown.{shown, number_of, link_of};
 ghost use Rattle.conn_core.specs.Opened.{opened, IsUnopened, IsFresh};
@@ -217,7 +217,8 @@ impl<L: Link, B: Body, H: Hijack + Drop> Conn<L, B, H> {
             × (result.lives.items ≡ (shown self).lives) }
         ensures rest { (result.told ≡ (shown self).ending.told) × (result.closing ≡ (shown self).ending.closing) }
         ensures ended { (S : Stacks H) → Holds L.seen (record { says = H.says; ends = H.ends }) S self → IsEnded L L.seen (record { says = H.says; ends = H.ends }) S (shown self).local result }
-        ensures plainly { (S : Stacks H) → Holds L.seen (record { says = H.says; ends = H.ends }) S self → IsPlainEnd L L.seen (record { says = H.says; ends = H.ends }) S (shown self).local (is_some (shown self).ending.late) result }
+        ensures plainly { (S : Stacks H) → Holds L.seen (record { says = H.says; ends = H.ends }) S self → IsPlainEnd L L.seen (record { says = H.says; ends = H.ends }) S (shown self).local (shown self).ending result }
+        ensures any { (T : Teller H) → HoldsWith L.seen (record { says = H.says; ends = H.ends }) T self → EndsOver L L.seen (record { says = H.says; ends = H.ends }) T (shown self).peer (shown self).ending result }
     {
         let Conn {
             number,
@@ -269,7 +270,9 @@ impl<L: Link, B: Body, H: Hijack + Drop> Conn<L, B, H> {
         link
     }
 
-    /// A law: whatever was done with it, a connection that isn't over stands for its talk.
+    /// Laws: while it is carried that it stands for its talk, a connection that isn't over does. Where more of a
+    /// request is to be read, all requests in the bytes that came were run, and a moment is kept exactly where one is
+    /// begun behind them; and where a request stands, the bytes held are all that stand behind it.
     pub fn stands(&self)
         ensures talk { (S : Stacks H) → (shown self.now).state ≢ State.Over → Holds L.seen (record { says = H.says; ends = H.ends }) S self.now
             → StandsForTalk (L.seen (link_of self.now)) (record { says = H.says; ends = H.ends }) S (shown self.now).local (shown self.now).lives (shown self.now).calls
@@ -317,6 +320,7 @@ fn inside<B: Body, H: Drop>(
                 told: 0,
                 closing: None,
                 late: None,
+                left: false,
             },
             moments: Moments::new(now, begun),
             at,

@@ -11,7 +11,7 @@ use rack_types::{Body, Env, Local, Peer};
 use std::alloc::Global;
 use talk_core::Life;
 
-// Its methods stand in `read`, `answer`, `say` and `turn`.
+// Its methods stand in `read`, `answer`, `say`, `turn` and `owner`.
 #[derive(Drop)]
 pub(crate) struct Inside<B: Body, H> {
     pub(crate) alloc: Global,

@@ -36,6 +36,8 @@ pub(crate) struct Ending {
     pub(crate) closing: Option<u64>,
     // That its last request took too long, and the reply that says so was begun.
     pub(crate) late: Option<Late>,
+    // That a drain was told while a hijacker had it.
+    pub(crate) left: bool,
 }
 
 impl Moments {

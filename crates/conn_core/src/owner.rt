@@ -169,6 +169,7 @@ impl<B: Body, H: Hijack + Drop> Inside<B, H> {
                 None => put(&mut self.at, At::Over(Why::Idle(IdleBy::Drain { level }))),
             },
             State::Hijacked => {
+                self.ending.left = true;
                 let at = let_leave(mem::replace(&mut self.at, At::Refusing));
                 put(&mut self.at, at);
             }

@@ -34,7 +34,7 @@ pub enum Next {
 /// What a tick left.
 #[derive(Clone, Copy, Debug, PartialEq, Eq)]
 pub enum Tick {
-    /// No limit has passed, and nothing changed.
+    /// No limit has passed, and nothing changed but the greatest moment.
     Still,
     /// A request took too long: the reply that says so is owed.
     Write,

@@ -20,7 +20,7 @@ use Rattle.talk_core.specs.Teller.{Stacks, Teller, tell, fates_of}
 
 -- what a connection has behind it: the bytes that it was given and those that it sent, whether a read answered that
 -- the peer ended, how many of its link's reads and writes failed, how many requests were run, the level of draining
--- that it was last told, and the request whose reply closed it by draining
+-- that it was last told since its opening or its last placing, and the request whose reply closed it by draining
 pub record Past : Type 0 where
   pub given : List ℕ
   pub sent : List ℕ
@@ -75,7 +75,7 @@ abbrev pub NeedsDrain : Bool → ℕ → Type 0
 NeedsDrain false told = ⊤
 NeedsDrain true told = 1 ≤ told
 
--- an idle connection: nothing is begun, and for long enough nothing came; or all was answered and a drain was told
+-- an idle connection: nothing is begun, and for long enough nothing was sent; or all was answered and a drain was told
 abbrev pub IdleAs : IdleBy → Past → Type 0
 IdleAs (Clock since now) p = since + stock_limits.idle_ms ≤ now
 IdleAs (Drain level) p = (p.given ≢ []) × (1 ≤ level)

@@ -3,7 +3,7 @@
 /// What an idle connection was ended by.
 #[derive(Clone, Copy, Debug, PartialEq, Eq)]
 pub enum IdleBy {
-    /// Nothing came for 20,000 ms. Both are moments, in milliseconds.
+    /// Nothing was begun, and for 20,000 ms no byte was sent. Both are moments, in milliseconds.
     Clock {
         /// When the last reply was sent whole, or when the connection was opened.
         since: u64,
@@ -35,7 +35,7 @@ pub enum Why {
     },
     /// The peer took nothing for 10,000 ms.
     Stalled {
-        /// When it last took something, or when there first was something to take.
+        /// When it last took something, or when there first was something to take, whichever is later.
         since: u64,
         /// When it was looked at.
         now: u64,
@@ -80,7 +80,7 @@ pub struct Ended<L> {
     pub lives: Vec<Life>,
     /// How many requests were run.
     pub calls: u64,
-    /// The level of draining that it was last told, 0 where none was.
+    /// The level of draining that it was last told since its opening or its last placing, 0 where none was.
     pub told: u64,
     /// The number of the request whose reply closed it by draining, if one did.
     pub closing: Option<u64>,

@@ -1,4 +1,4 @@
-use Rattle.std.proofs.Common.{◌≡◌, ◌≤◌, ℕ, refl, sym, ap, subst, ◌∙◌}
+use Rattle.std.proofs.Common.{◌≡◌, ◌≤◌, ℕ, true, refl, sym, ap, subst, ◌∙◌}
 use Rattle.talk_core.specs.declared.ended.IdleBy.TheVariants.{Drain}
 use Rattle.talk_core.specs.declared.ended.Why.TheVariants as why
 use Rattle.talk_core.specs.Tail.{Voice}
@@ -6,8 +6,9 @@ use Rattle.conn_core.specs.declared.place.At.{At}
 use Rattle.conn_core.specs.declared.place.At.TheVariants as at
 use Rattle.conn_core.specs.Holds.{kept}
 use Rattle.conn_core.specs.Place.{left_at}
+use Rattle.conn_core.specs.Rests.{RestsAt, Begins}
 use Rattle.conn_core.proofs.MoveLemmas.{reading_place}
-use Rattle.conn_core.proofs.OwnerLemmas.{drain_holds, left_holds}
+use Rattle.conn_core.proofs.OwnerLemmas.{drain_holds, left_holds, left_rests, left_begins}
 use Rattle.conn_core.proofs.PlaceLemmas.{stands_place}
 use Rattle.conn_core.proofs.inside.Inside.drain.Goals as goal
 
@@ -19,6 +20,19 @@ returns-in-None-clause-holds g c = λ T s h.
     (drain_holds V T s p _ c.args.level (reading_place p.at (sym c.state_at.ensures ∙ c.in-Reading.is))
     c.in-None.is c.requires.level.0 c.requires.read refl refl refl h)
 
+pub invariant_of-self-in-Hijacked : goal.invariant_of-self-in-Hijacked
+invariant_of-self-in-Hijacked g c =
+    let p = c.args.self.now in
+    let held = sym c.state_at.ensures ∙ c.in-Hijacked.is in
+    let is : c.put-in-Hijacked.new.at ≡ left_at p.at =
+    c.put-in-Hijacked.ensures ∙ c.let_leave-at.ensures ∙ ap (λ (a : At g.row.B.Denot g.row.H.Denot). left_at a) c.replace.ensures.value in
+    record {
+      room = p.room;
+      rests = subst (λ (a : At g.row.B.Denot g.row.H.Denot). RestsAt a p.intake p.held p.ring.items p.calls (record p.ending { left = true })) (sym is)
+          (left_rests p.at p.intake p.held p.ring.items p.calls p.ending (record p.ending { left = true }) held p.rests);
+      begins = subst (λ (a : At g.row.B.Denot g.row.H.Denot). Begins a p.intake p.moments.begun) (sym is) (left_begins p.at p.intake p.moments.begun held);
+    }
+
 pub returns-in-Hijacked-clause-holds : goal.returns-in-Hijacked-clause-holds
 returns-in-Hijacked-clause-holds g c = λ T s h.
     let V : Voice g.row.H.Denot = record { says = g.H.Hijack.says; ends = g.H.Hijack.ends } in
@@ -26,4 +40,4 @@ returns-in-Hijacked-clause-holds g c = λ T s h.
     let is : c.put-in-Hijacked.new.at ≡ left_at p.at =
     c.put-in-Hijacked.ensures ∙ c.let_leave-at.ensures ∙ ap (λ (a : At g.row.B.Denot g.row.H.Denot). left_at a) c.replace.ensures.value in
     let told = subst (λ (n : ℕ). 1 ≤ n) (sym c.requires.level.1) c.requires.level.0 in
-    stands_place (left_at p.at) c.put-in-Hijacked.new.at V T s p.peer _ (sym is) (left_holds V T s p.peer p.at (kept p) told p.rests h)
+    stands_place (left_at p.at) c.put-in-Hijacked.new.at V T s p.peer _ (sym is) (left_holds V T s p.peer p.at (kept p) told (sym c.state_at.ensures ∙ c.in-Hijacked.is) p.rests h)

@@ -38,6 +38,7 @@ returns-clause-names g c =
       state = ap (λ (a : At g.row.B.Denot g.row.H.Denot). state_at a) place;
       why = ap (λ (a : At g.row.B.Denot g.row.H.Denot). why_at a) place;
       owed = ap (λ (a : At g.row.B.Denot g.row.H.Denot). owed_at a c.put_fault.new.ring.items) place ∙ ring;
+      held = refl;
       after = ap (λ (a : At g.row.B.Denot g.row.H.Denot). after_at a) place;
       sure = ap (λ (a : At g.row.B.Denot g.row.H.Denot). sure_at a) place;
     }
