@@ -1,38 +1,30 @@
 // The environment of a request that was taken, kept from the request before.
-use message_framing::{Feed, Intake};
+use message_framing::Intake;
 use rack_env::refill;
-use rack_types::{Bytes, Env, Input, Limits, Local, NoMemory, Peer};
+use rack_types::{Bytes, Env, Input, Limits, Local, NoMemory, Peer, Request};
 use std::alloc::Global;
 use std::test::Fail;
 
-// An intake in which the request that this text is stands, if it is one.
-fn standing(alloc: Global, text: &[u8]) -> Result<Option<Intake>, NoMemory> {
-    let mut intake = Intake::new(alloc, Limits::stock())?;
-    match intake.feed(text)? {
-        Feed::Whole(_) => Ok(Some(intake)),
-        _ => Ok(None),
-    }
-}
-
-// Fills the environment anew from the request that stands.
+// Fills the environment anew from the request that stands, if one does.
 fn fill(env: &mut Env, intake: &mut Intake, https: bool) -> Result<(), NoMemory> {
     if intake.request().is_none() {
         return Ok(());
     }
     let input = intake.take_input();
-    let (Some(request), Some(peer), Some(name)) = (
-        intake.request(),
-        Peer::new(b"127.0.0.1"),
-        Peer::new(b"localhost"),
-    ) else {
-        return Ok(());
-    };
+    match intake.request() {
+        Some(request) => put(env, request, input, https),
+        None => Ok(()),
+    }
+}
+
+fn put(env: &mut Env, request: &Request, input: Input, https: bool) -> Result<(), NoMemory> {
     let local = Local {
-        name,
+        name: Peer::new(b"localhost").unwrap(),
         port: 9292,
         https,
         hijack: !https,
     };
+    let peer = Peer::new(b"127.0.0.1").unwrap();
     refill(env, request, input, &peer, &local)
 }
 
@@ -51,11 +43,19 @@ fn written(alloc: Global, env: &mut Env) -> Result<Vec<u8>, NoMemory> {
 
 // The same of the request that this text is. The environment is kept from the request before.
 fn lines_of(alloc: Global, env: &mut Env, text: &[u8], https: bool) -> Result<Vec<u8>, NoMemory> {
-    match standing(alloc, text)? {
-        Some(mut intake) => fill(env, &mut intake, https)?,
-        None => {}
-    }
+    let mut intake = Intake::new(alloc, Limits::stock())?;
+    put_request(env, &mut intake, text, https)?;
     written(alloc, env)
+}
+
+fn put_request(
+    env: &mut Env,
+    intake: &mut Intake,
+    text: &[u8],
+    https: bool,
+) -> Result<(), NoMemory> {
+    intake.feed(text)?;
+    fill(env, intake, https)
 }
 
 // A request, whether it comes by https, and its lines.

@@ -53,21 +53,27 @@ fn frame(
 // How many bytes of body an intake takes of these chunks and a last one.
 fn taken_of_chunks(alloc: Global, chunks: &[u8]) -> Result<Option<usize>, NoMemory> {
     let mut intake = Intake::new(alloc, Limits::stock())?;
+    feed_chunks(&mut intake, chunks)?;
+    Ok(intake.request().map(|request| request.body().len()))
+}
+
+fn feed_chunks(intake: &mut Intake, chunks: &[u8]) -> Result<(), NoMemory> {
     intake.feed(b"POST / HTTP/1.1\r\nHost: a\r\nTransfer-Encoding: chunked\r\n\r\n")?;
     intake.feed(chunks)?;
     intake.feed(b"0\r\n\r\n")?;
-    Ok(intake.request().map(|request| request.body().len()))
+    Ok(())
 }
 
 // The framer of that answer, to a request of HTTP/1.1.
 fn long_framer(alloc: Global) -> Result<Framer<Plain, Infallible>, NoMemory> {
+    let answer = long_answer(alloc)?;
     let ask = Ask {
         head: false,
         version: Version::Http11,
         persists: true,
     };
     let env = Env::new(alloc, Input::new(Bytes::new(Vec::new(alloc))));
-    Framer::start(alloc, ask, &env, long_answer(alloc)?, false)
+    Framer::start(alloc, ask, &env, answer, false)
 }
 
 // The first sixteen chunks.

@@ -1,7 +1,7 @@
 // Requests one behind the other, in pieces of several sizes, and what stands in front of a text.
 use message_framing::{Feed, Intake, what_stands};
 use rack_text::write_decimal;
-use rack_types::{Fault, Input, Limits, NoMemory};
+use rack_types::{Fault, Limits, NoMemory};
 use std::alloc::Global;
 use std::test::Fail;
 
@@ -17,13 +17,13 @@ fn tell(intake: &mut Intake, taken: usize, told: &mut Vec<u8>) -> Result<(), NoM
     } else {
         b" "
     })?;
-    tell_body(intake.take_input(), taken, told)?;
+    let done = tell_body(intake.take_input().all(), taken, told);
     intake.advance();
-    Ok(())
+    done
 }
 
-fn tell_body(input: Input, taken: usize, told: &mut Vec<u8>) -> Result<(), NoMemory> {
-    told.extend_from_slice(input.all())?;
+fn tell_body(body: &[u8], taken: usize, told: &mut Vec<u8>) -> Result<(), NoMemory> {
+    told.extend_from_slice(body)?;
     told.push(b' ')?;
     write_decimal(taken as u128, told)?;
     told.push(b'\n')?;
@@ -51,12 +51,16 @@ fn fed(intake: &mut Intake, piece: &[u8], told: &mut Vec<u8>) -> Result<Option<u
 fn taken(alloc: Global, text: &[u8], size: usize) -> Result<Vec<u8>, NoMemory> {
     let mut intake = Intake::new(alloc, Limits::stock())?;
     let mut told = Vec::new(alloc);
+    take(&mut intake, text, size, &mut told)?;
+    Ok(told)
+}
+
+fn take(intake: &mut Intake, text: &[u8], size: usize, told: &mut Vec<u8>) -> Result<(), NoMemory> {
     let mut rest = text;
     // Each answer here takes a byte at least, so there are no more pieces than bytes.
     for _ in 0..text.len() {
-        let piece = &rest[..rest.len().min(size)];
-        let Some(n) = fed(&mut intake, piece, &mut told)? else {
-            return Ok(told);
+        let Some(n) = fed(intake, first_of(rest, size), told)? else {
+            return Ok(());
         };
         rest = rest.get(n..).unwrap_or(b"");
     }
@@ -64,8 +68,12 @@ fn taken(alloc: Global, text: &[u8], size: usize) -> Result<Vec<u8>, NoMemory> {
         b"begun"
     } else {
         b"not begun"
-    })?;
-    Ok(told)
+    })
+}
+
+// The first piece of this size, or all where there is no more.
+fn first_of(text: &[u8], size: usize) -> &[u8] {
+    text.get(..size).unwrap_or(text)
 }
 
 // Three requests one behind the other.
