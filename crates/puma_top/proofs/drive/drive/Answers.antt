@@ -1,4 +1,4 @@
-use Rattle.std.proofs.Common.{◌≡◌, ◌<◌, [], None, refl, sym, ◌∙◌, arith, inr}
+use Rattle.std.proofs.Common.{◌≡◌, ◌<◌, ◌≤◌, [], None, refl, sym, ◌∙◌, arith, inr}
 use Rattle.conn_core.specs.declared.state.State.TheVariants as state
 use Rattle.conn_core.specs.Shown.{shown, link_of}
 use Rattle.conn_core.proofs.CallerLemmas.{unended, few_calls}
@@ -18,6 +18,10 @@ loop-conn-init g c = record {
 
 pub returns-then-taken-ge-MOST-clause-drives : goal.returns-then-taken-ge-MOST-clause-drives
 returns-then-taken-ge-MOST-clause-drives g c = c.loop-conn.invariant.drives
+
+pub returns-then-taken-ge-MOST-clause-done : goal.returns-then-taken-ge-MOST-clause-done
+returns-then-taken-ge-MOST-clause-done g c =
+    let long : most_taken ≤ (shown c.loop-conn.conn).taken = omega (arith, c.taken.ensures, c.if-taken-ge-MOST.true) in inr long
 
 pub returns-then-taken-ge-MOST-clause-holds : goal.returns-then-taken-ge-MOST-clause-holds
 returns-then-taken-ge-MOST-clause-holds g c = c.loop-conn.invariant.holds
