@@ -1,6 +1,6 @@
 """What a request costs on kept objects, once all is warm: `bench_warm` makes so many turns and twice as many,
 and the difference is what the turns cost. It is taken in alone, with a new environment, and with a kept
-one that is filled anew.
+one that is filled anew. So too what is done with a connection that waits for its peer.
 """
 
 import os
@@ -23,6 +23,11 @@ WANTED = {
 }
 MOST_ALLOCATIONS = 1
 MOST_FOR_COLLISIONS = 4
+
+# What is done with a connection that waits, what its peer gave, and how many instructions are wanted at most.
+PARKED = (("a tick", "tick"), ("a telling of a drain", "tell"), ("a watch, with what the watcher in memory takes", "watch"))
+GAVE = (b"", b"GET / HT")
+MOST_FOR_PARKED = 100
 
 WORD = 2 ** 64 - 1
 MULTIPLIER = 0x9E37_79B9_7F4A_7C15
@@ -87,6 +92,18 @@ def a_turn(counts, makes, text):
     return (counts(makes, text, 2 * TURNS) - counts(makes, text, TURNS)) / TURNS
 
 
+def parked_figures():
+    """Prints what is done with a connection that waits, and answers what was compared."""
+    print(f"\n| a connection that waits, at most {MOST_FOR_PARKED} instructions are wanted | nothing was read | a request is begun |")
+    print("|---|--:|--:|")
+    compared = []
+    for name, word in PARKED:
+        unread, begun = (a_turn(instructions, word, gave) for gave in GAVE)
+        print(f"| {name} | {unread:,.0f} | {begun:,.0f} |", flush=True)
+        compared += [(f"{name}, nothing was read", unread, MOST_FOR_PARKED), (f"{name}, a request is begun", begun, MOST_FOR_PARKED)]
+    return compared
+
+
 def figures(request, heads):
     """Prints the tables, by a function that makes a head of fields and the heads by name. Answers what was
     compared (its name, what was found and what is wanted at most), and what a kept environment costs, by row."""
@@ -124,4 +141,5 @@ def figures(request, heads):
         times = [found[one][makes] / found[other][makes] for makes in (NEW, KEPT)]
         print(f"| {name} | {times[0]:.2f} times | {times[1]:.2f} times |")
         compared += [(f"names that collide, {name}", most, MOST_FOR_COLLISIONS) for most in times]
+    compared += parked_figures()
     return compared, {row: costs[KEPT] for row, costs in found.items()}

@@ -1,8 +1,12 @@
 // Turns requests over and over, on kept objects, so that `bench/figures.py` can count what one of them
 // costs warm. The words say what is made of a request, and how many turns there are; a turn takes in all
-// requests of standard input.
+// requests of standard input. Or they say what is done with a connection that waits, whose peer gave what
+// standard input has; a turn does it once.
 #![tactic(auto)]
 
+mod parked;
+
+use crate::parked::{Does, stays};
 use message_framing::{Feed, Intake};
 use rack_env::{env_of, refill};
 use rack_types::{Bytes, Env, Input, Limits, Local, NoMemory, Peer};
@@ -25,6 +29,15 @@ enum Makes {
     Kept,
 }
 
+/// What is turned.
+#[derive(Clone, Copy)]
+enum Turned {
+    /// Requests.
+    Requests(Makes),
+    /// A connection that waits.
+    Parked(Does),
+}
+
 /// What stays from one request to the next.
 #[derive(Drop)]
 struct Kept {
@@ -35,42 +48,57 @@ struct Kept {
 }
 
 fn main(rt: HostRuntime) -> ExitCode {
-    let Ok(Some((makes, turns))) = words(&rt) else {
+    let Ok(Some((turned, turns))) = words(&rt) else {
         return ExitCode::from(2);
     };
     let mut text = Vec::new(rt.alloc());
     if rt.stdin().read_to_end(&mut text).is_err() {
         return ExitCode::from(3);
     }
-    let Ok(Some(mut kept)) = begin(rt.alloc()) else {
-        return ExitCode::from(4);
+    let went = match turned {
+        Turned::Requests(makes) => requests(rt.alloc(), makes, &text, turns),
+        Turned::Parked(does) => stays(rt.alloc(), does, &text, turns),
     };
-    for _ in 0..turns {
-        match turn(rt.alloc(), makes, &text, &mut kept) {
-            Ok(true) => {}
-            _ => return ExitCode::from(5),
-        }
+    match went {
+        Ok(true) => ExitCode::from(0),
+        Ok(false) => ExitCode::from(5),
+        Err(_) => ExitCode::from(4),
     }
-    ExitCode::from(0)
 }
 
-/// What is made, and how many turns there are.
-fn words<R: std::rt::Env + AllocGlobal>(rt: &R) -> io::Result<Option<(Makes, u32)>> {
+/// Turns the requests of the text so often. False where they don't end with it.
+fn requests(alloc: Global, makes: Makes, text: &[u8], turns: u32) -> Result<bool, NoMemory> {
+    let Some(mut kept) = begin(alloc)? else {
+        return Ok(false);
+    };
+    for _ in 0..turns {
+        if !turn(alloc, makes, text, &mut kept)? {
+            return Ok(false);
+        }
+    }
+    Ok(true)
+}
+
+/// What is turned, and how many turns there are.
+fn words<R: std::rt::Env + AllocGlobal>(rt: &R) -> io::Result<Option<(Turned, u32)>> {
     let mut words = Vec::new(rt.alloc());
     for word in env::args(rt)?.skip(1) {
         words.push(word)?;
     }
-    let (Some(makes), Some(turns)) = (words.get(0), words.get(1)) else {
+    let (Some(what), Some(turns)) = (words.get(0), words.get(1)) else {
         return Ok(None);
     };
-    let makes = match makes.as_str() {
-        "intake" => Makes::Nothing,
-        "new" => Makes::New,
-        "kept" => Makes::Kept,
+    let turned = match what.as_str() {
+        "intake" => Turned::Requests(Makes::Nothing),
+        "new" => Turned::Requests(Makes::New),
+        "kept" => Turned::Requests(Makes::Kept),
+        "tick" => Turned::Parked(Does::Tick),
+        "tell" => Turned::Parked(Does::Tell),
+        "watch" => Turned::Parked(Does::Watch),
         _ => return Ok(None),
     };
     match turns.parse() {
-        Ok(turns) => Ok(Some((makes, turns))),
+        Ok(turns) => Ok(Some((turned, turns))),
         Err(_) => Ok(None),
     }
 }

@@ -1,6 +1,8 @@
 -- What stands once a request was run or a refusal is named.
-use Rattle.std.proofs.Common.{◌≡◌, ℕ, suc, ◌+◌, ◌<◌, Bool, List, [], ◌++◌, length, refl, sym, ap, subst, ◌∙◌, arith, None}
-use Rattle.std.proofs.lemmas.List.{append-nil}
+use Rattle.std.proofs.Common.{◌≡◌, ℕ, suc, ◌+◌, ◌<◌, Bool, List, [], ◌++◌, length, refl, sym, ap, subst, ◌∙◌, arith, Option, None, Some, inr, true, false}
+use Rattle.std.specs.Prelude.{is_some, nat_lt, ◌&&◌, ◌||◌, ◌==◌, if◌then◌else◌}
+use Rattle.std.proofs.lemmas.Bool.Decides.{nat_tests}
+use Rattle.std.proofs.lemmas.List.{append-nil, nil_from_length}
 use Rattle.rack_types.specs.declared.answer.Answer.{Answer}
 use Rattle.rack_types.specs.declared.fault.Fault.{Fault}
 use Rattle.rack_types.specs.declared.peer.Local.{Local}
@@ -20,26 +22,29 @@ use Rattle.reply_framing.specs.Owes.{StandsFor}
 use Rattle.reply_framing.specs.Reply.{WholeReply, reply, body_after}
 use Rattle.reply_framing.proofs.CallerLemmas.{owes_at_start}
 use Rattle.talk_core.specs.declared.ended.Why.TheVariants as why
-use Rattle.talk_core.specs.Stands.{Stands, replies, refuses}
+use Rattle.talk_core.specs.Stands.{Stands, ClosesAt, replies, refuses}
 use Rattle.talk_core.specs.Tail.{Voice}
 use Rattle.talk_core.specs.Teller.{Stack, Teller, reply_of, ask_of, is_last}
-use Rattle.talk_core.proofs.CallerLemmas.{stands_asked, stands_refused, reply_keeps, not_last_below}
+use Rattle.talk_core.proofs.CallerLemmas.{stands_asked, stands_refused, reply_keeps, not_last_below, closes_none}
+use Rattle.conn_core.specs.declared.moments.Ending.{Ending}
+use Rattle.conn_core.specs.declared.moments.Late.{Late}
 use Rattle.conn_core.specs.declared.place.At.{At}
 use Rattle.conn_core.specs.declared.place.At.TheVariants as at
-use Rattle.conn_core.specs.Holds.{Kept, past, Between, Replying, HoldsAt, StandsAt}
+use Rattle.conn_core.specs.Holds.{Kept, past, Between, Replying, Refuses, HoldsAt, StandsAt}
+use Rattle.conn_core.specs.Keeps.{drains_now, ending_run, no_bytes}
 use Rattle.conn_core.specs.Plain.{EndsPlainly}
-use Rattle.conn_core.specs.Rests.{GoesOn, RestsAt}
+use Rattle.conn_core.specs.Rests.{GoesOn, RestsAt, IsAbsent, IsUnended}
 use Rattle.conn_core.specs.Steps.{HandsOver, BeginsAt, HandsOn}
 use Rattle.conn_core.proofs.FeedLemmas.{silent_lacks}
 use Rattle.conn_core.proofs.HijackLemmas.{with_told, hands_at, told_rest}
-use Rattle.conn_core.proofs.PlaceLemmas.{kept_same}
+use Rattle.conn_core.proofs.PlaceLemmas.{kept_same, over_same, unclosed, untimed}
 
 -- what is owed of a reply, with want of memory
 pub unsaid : {H : Type 0} (V : Voice H) (T : Teller H) (s : Seen) (over : Bool) (given sent : List ℕ) (c : Kept) (k : ℕ) (r : Parts) (behind : List ℕ)
-    → Replying V T over given sent c k r behind → EndsPlainly why.NoMemory V T (past s c.calls given sent over)
+    → Replying V T over given sent c k r behind → EndsPlainly (is_some c.ending.late) why.NoMemory V T (past s c given sent over)
 unsaid {H} V T s over given sent c k r behind h =
     let n : c.calls ≡ k + 1 = omega (arith, h.count) in
-    (c.ring ++ behind, record { word = replies r; untimed = tt; partly = record { k = k; rest = c.held; calls_is = n; stands = h.stands; closes = tt } })
+    (c.ring ++ behind, record { word = replies r; untimed = tt; partly = record { k = k; rest = c.held; calls_is = n; stands = h.stands; closes = h.closes } })
 
 module _ {B H : Type 0} (V : Voice H) (T : Teller H) (s : Seen) (over : Bool) (given sent : List ℕ) (c : Kept) (k : ℕ) (r : Parts)
     (ask : Ask) (ps : Pairs) (a : Answer Content H) (last : Bool) (is : T k r ≡ reply ask ps a last)
@@ -73,25 +78,38 @@ module _ {B H : Type 0} (V : Voice H) (T : Teller H) (s : Seen) (over : Bool) (g
   begun (at.Over why.Hijacked) f = absurd f
 
 -- the parts behind a run
-abbrev pub with_run : Kept → Intake → ℕ → Kept
-with_run c intake calls = record { intake = intake; held = c.held; ring = c.ring; calls = calls; taken = c.taken }
+abbrev pub with_run : Kept → Intake → ℕ → Ending → Kept
+with_run c intake calls ending = record c { intake = intake; calls = calls; ending = ending }
+
+-- the reply to the request that is run may close by draining, where no byte is held behind it
+pub run_closes : (told calls n : ℕ) (closing : Option ℕ) (held : List ℕ) (P : Type 0) → n ≡ calls + 1 → closing ≡ None
+    → ClosesAt (if drains_now told held then Some calls else closing) n P held
+run_closes told calls n closing held P e none = go (nat_lt 0 told) (no_bytes held) refl
+  where
+    nothing : no_bytes held ≡ true → held ≡ []
+    nothing same = let size : length held ≡ 0 = grind (arith, nat_tests, same) in nil_from_length held size
+
+    go : (b d : Bool) → no_bytes held ≡ d → ClosesAt (if b && d then Some calls else closing) n P held
+    go false d same = closes_none closing n P held none
+    go true false same = closes_none closing n P held none
+    go true true same = (e, inr (nothing same))
 
 module _ {B H : Type 0} (V : Voice H) (T : Teller H) (s : Seen) (peer : List ℕ) (local : Local) (c : Kept) where
   -- the request that stands was run
-  pub answered : (b : At B H) (intake : Intake) (calls : ℕ) (stack : Stack H) (last : Bool) (ask : Ask) (env : Environment) → calls ≡ c.calls + 1
-      → last ≡ is_last None c.calls
+  pub answered : (b : At B H) (intake : Intake) (calls : ℕ) (m : Ending) (stack : Stack H) (last : Bool) (ask : Ask) (env : Environment) → calls ≡ c.calls + 1
+      → m ≡ ending_run c.ending c.held c.calls → last ≡ is_last m.closing c.calls
       → ((now : List ℕ) (r : Parts) → Fed c.intake now → IsRequest now r → (ask ≡ ask_of r) × (env ≡ environment r peer local))
       → BeginsAt ask env.pairs (stack env.pairs env.input.bytes) last b
-      → ((r : Parts) → T c.calls r ≡ reply_of stack (env_pairs r peer local) r (is_last None c.calls))
-      → StandsAt {B = B} V T s peer at.Asked c → StandsAt V T s peer b (with_run c intake calls)
-  answered b intake calls stack last ask env one is_the_last asks f told h =
+      → ((r : Parts) → T c.calls r ≡ reply_of stack (env_pairs r peer local) r (is_last m.closing c.calls))
+      → StandsAt {B = B} V T s peer at.Asked c → StandsAt V T s peer b (with_run c intake calls m)
+  answered b intake calls m stack last ask env one ending_is is_the_last asks f told h =
       let now = h.at.0 in
       let r = h.at.1 in
       let between : Between V T h.over h.given h.sent c now = h.at.3 in
       let same = asks now r between.fed h.at.2 in
       let is : T c.calls r ≡ reply ask env.pairs (stack env.pairs env.input.bytes) last =
-      told r ∙ sym (ap (λ (e : Environment). reply (ask_of r) e.pairs (stack e.pairs e.input.bytes) (is_last None c.calls)) same.1)
-      ∙ sym (ap (λ (q : Ask). reply q env.pairs (stack env.pairs env.input.bytes) (is_last None c.calls)) same.0)
+      told r ∙ sym (ap (λ (e : Environment). reply (ask_of r) e.pairs (stack e.pairs e.input.bytes) (is_last m.closing c.calls)) same.1)
+      ∙ sym (ap (λ (q : Ask). reply q env.pairs (stack env.pairs env.input.bytes) (is_last m.closing c.calls)) same.0)
       ∙ sym (ap (λ (l : Bool). reply ask env.pairs (stack env.pairs env.input.bytes) l) is_the_last) in
       let n : calls ≡ suc c.calls = omega (arith, one) in
       record {
@@ -100,30 +118,32 @@ module _ {B H : Type 0} (V : Voice H) (T : Teller H) (s : Seen) (peer : List ℕ
         over = h.over;
         shows = h.shows;
         counts = h.counts;
-        at = begun V T s h.over h.given h.sent (with_run c intake calls) c.calls r ask env.pairs (stack env.pairs env.input.bytes) last is
+        at = begun V T s h.over h.given h.sent (with_run c intake calls m) c.calls r ask env.pairs (stack env.pairs env.input.bytes) last is
             (record {
               count = n;
               live = between.live;
+              closes = subst (λ (x : Ending). ClosesAt x.closing calls ((T c.calls r).after ≡ Hijack) c.held) (sym ending_is)
+                  (run_closes c.ending.told c.calls calls c.ending.closing c.held ((T c.calls r).after ≡ Hijack) one (unclosed c.ending between.unended));
               stands = subst (λ (x : List ℕ). Stands V T h.over h.given h.sent c.calls (replies r) c.held (x ++ (T c.calls r).bytes)) (sym between.ring)
                   (stands_asked V T h.over h.given h.sent now c.held r c.calls between.stands h.at.2);
             }) b f;
       }
 
   -- its environment wanted memory, and it was not run
-  pub unanswered : (d : Kept) → d.calls ≡ c.calls → d.taken ≡ c.taken → StandsAt {B = B} V T s peer at.Asked c → StandsAt {B = B} V T s peer (at.Over why.NoMemory) d
-  unanswered d n t h = record {
+  pub unanswered : (d : Kept) → d.calls ≡ c.calls → d.taken ≡ c.taken → d.ending ≡ c.ending → StandsAt {B = B} V T s peer at.Asked c → StandsAt {B = B} V T s peer (at.Over why.NoMemory) d
+  unanswered d n t m h = record {
     given = h.given;
     sent = h.sent;
     over = h.over;
     shows = h.shows;
     counts = t ∙ h.counts;
-    at = subst (λ (k : ℕ). EndsPlainly why.NoMemory V T (past s k h.given h.sent h.over)) (sym n)
-        (silent_lacks V T s h.over h.given h.sent (h.at.0 ++ c.held) c.calls h.at.3.stands);
+    at = over_same why.NoMemory V T s h.over h.given h.sent c d n m
+        (silent_lacks V T s h.over h.given h.sent (h.at.0 ++ c.held) c (unclosed c.ending h.at.3.unended) h.at.3.stands);
   }
 
   -- a refusal is named
   pub named : (f : Fault) (ring : List ℕ) → ring ≡ c.ring ++ fault_reply f → StandsAt {B = B} V T s peer (at.Refused f) c
-      → StandsAt {B = B} V T s peer at.Refusing (record { intake = c.intake; held = c.held; ring = ring; calls = c.calls; taken = c.taken })
+      → StandsAt {B = B} V T s peer at.Refusing (record c { ring = ring })
   named f ring is h =
       let now = h.at.0 in
       let between : Between V T h.over h.given h.sent c now = h.at.3 in
@@ -135,58 +155,82 @@ module _ {B H : Type 0} (V : Voice H) (T : Teller H) (s : Seen) (peer : List ℕ
         over = h.over;
         shows = h.shows;
         counts = h.counts;
-        at = (
+        at = subst (λ (x : Option Late). Refuses x V T h.over h.given h.sent (record c { ring = ring })) (sym (untimed c.ending between.unended)) (
           f,
           now ++ c.held,
           subst (λ (x : List ℕ). Stands V T h.over h.given h.sent c.calls (refuses f) (now ++ c.held) x)
               (sym (is ∙ ap (λ x. x ++ fault_reply f) between.ring))
               (stands_refused V T h.over h.given h.sent (now ++ c.held) f c.calls between.stands whole),
+          unclosed c.ending between.unended,
         );
       }
 
+-- nothing ends the connection behind a run whose reply isn't the last
+run_unended : (old m : Ending) (held : List ℕ) (calls : ℕ) → IsUnended old → m ≡ ending_run old held calls → is_last m.closing calls ≡ false → IsUnended m
+run_unended old m held calls unended is keeps =
+    subst IsUnended (sym is) (go (drains_now old.told held) (ap (λ (x : Ending). is_last x.closing calls) (sym is) ∙ keeps), unended.1)
+  where
+    one_of : (a b : Bool) → b ≡ true → (a || b) ≡ false → ⊥
+    one_of true b same e = cc
+    one_of false b same e = cc
+
+    same : (n : ℕ) → is_last (Some n) n ≡ false → ⊥
+    same n e =
+        let equal : (n == n) ≡ true = grind (arith, nat_tests) in one_of (n == 9999) (n == n) equal e
+
+    go : (b : Bool) → is_last (if b then Some calls else old.closing) calls ≡ false → IsAbsent (if b then Some calls else old.closing)
+    go true e = absurd (same calls e)
+    go false e = unended.0
+
 -- where the connection goes on behind the reply to a run there is a next request
-goes_on_behind : {H : Type 0} (ask : Ask) (ps : Pairs) (a : Answer Content H) (calls : ℕ) (intake : Intake)
-    → StandsWhole intake → calls < 10000 → (after : After) → after ≡ (reply ask ps a (is_last None calls)).after → GoesOn after intake (calls + 1)
-goes_on_behind {H} ask ps a calls intake whole few Keep e =
-    let below : calls < 9999 = not_last_below None calls few (reply_keeps ask ps a (is_last None calls) (sym e)) in
+goes_on_behind : {H : Type 0} (ask : Ask) (ps : Pairs) (a : Answer Content H) (calls : ℕ) (intake : Intake) (old m : Ending) (held : List ℕ)
+    → IsUnended old → m ≡ ending_run old held calls
+    → StandsWhole intake → calls < 10000 → (after : After) → after ≡ (reply ask ps a (is_last m.closing calls)).after → GoesOn after intake (calls + 1) m
+goes_on_behind {H} ask ps a calls intake old m held unended is whole few Keep e =
+    let keeps : is_last m.closing calls ≡ false = reply_keeps ask ps a (is_last m.closing calls) (sym e) in
+    let below : calls < 9999 = not_last_below m.closing calls few keeps in
     let some : 0 < calls + 1 = omega arith in
     let left : calls + 1 < 10000 = omega (arith, below) in
-    (whole, (some, left))
-goes_on_behind {H} ask ps a calls intake whole few Close e = tt
-goes_on_behind {H} ask ps a calls intake whole few Hijack e = let some : 0 < calls + 1 = omega arith in some
+    (whole, (some, (left, run_unended old m held calls unended is keeps)))
+goes_on_behind {H} ask ps a calls intake old m held unended is whole few Close e = subst (λ (x : Ending). IsAbsent x.late) (sym is) unended.1
+goes_on_behind {H} ask ps a calls intake old m held unended is whole few Hijack e = let some : 0 < calls + 1 = omega arith in some
 
 more_behind : (n m : ℕ) → 0 < m → 0 < n + m
 more_behind n m some = omega (arith, some)
 
 -- nothing is owed where a request stands
-pub asked_ring : {B H : Type 0} (a : At B H) (intake : Intake) (held ring : List ℕ) (calls : ℕ) → a ≡ at.Asked → RestsAt a intake held ring calls → ring ≡ []
-asked_ring {B} {H} a intake held ring calls e h = (subst (λ (b : At B H). RestsAt b intake held ring calls) e h).0
+pub asked_ring : {B H : Type 0} (a : At B H) (intake : Intake) (held ring : List ℕ) (calls : ℕ) (m : Ending) → a ≡ at.Asked → RestsAt a intake held ring calls m → ring ≡ []
+asked_ring {B} {H} a intake held ring calls m e h = (subst (λ (b : At B H). RestsAt b intake held ring calls m) e h).0
 
-pub asked_few : {B H : Type 0} (a : At B H) (intake : Intake) (held ring : List ℕ) (calls : ℕ) → a ≡ at.Asked → RestsAt a intake held ring calls → calls < 10000
-asked_few {B} {H} a intake held ring calls e h = (subst (λ (b : At B H). RestsAt b intake held ring calls) e h).1.0
+pub asked_few : {B H : Type 0} (a : At B H) (intake : Intake) (held ring : List ℕ) (calls : ℕ) (m : Ending) → a ≡ at.Asked → RestsAt a intake held ring calls m → calls < 10000
+asked_few {B} {H} a intake held ring calls m e h = (subst (λ (b : At B H). RestsAt b intake held ring calls m) e h).1.0
+
+pub asked_unended : {B H : Type 0} (a : At B H) (intake : Intake) (held ring : List ℕ) (calls : ℕ) (m : Ending) → a ≡ at.Asked → RestsAt a intake held ring calls m
+    → IsUnended m
+asked_unended {B} {H} a intake held ring calls m e h = (subst (λ (b : At B H). RestsAt b intake held ring calls m) e h).1.1.1
 
 -- safety behind a run, where the hijacker of a reply that says nothing was told the bytes held
 pub begins_rest : {B H : Type 0} (V : Voice H) (a b : At B H) (ask : Ask) (ps : Pairs) (answer : Answer Content H) (last : Bool) (calls : ℕ) (intake : Intake)
-    (held left before ring : List ℕ) → BeginsAt ask ps answer last a → HandsOn V a held before b ring left → StandsWhole intake → last ≡ is_last None calls
-    → calls < 10000 → before ≡ [] → RestsAt b intake left ring (calls + 1)
-begins_rest {B} {H} V at.Reading b ask ps answer last calls intake held left before ring f e whole is few none = absurd f
-begins_rest {B} {H} V at.Asked b ask ps answer last calls intake held left before ring f e whole is few none = absurd f
-begins_rest {B} {H} V (at.Refused fault) b ask ps answer last calls intake held left before ring f e whole is few none = absurd f
-begins_rest {B} {H} V (at.Answering framer) b ask ps answer last calls intake held left before ring f e whole is few none =
-    subst (λ (d : At B H). RestsAt d intake left ring (calls + 1)) (sym e.0) (
+    (held left before ring : List ℕ) (old m : Ending) → BeginsAt ask ps answer last a → HandsOn V a held before b ring left → StandsWhole intake
+    → IsUnended old → m ≡ ending_run old held calls → last ≡ is_last m.closing calls → calls < 10000 → before ≡ [] → RestsAt b intake left ring (calls + 1) m
+begins_rest {B} {H} V at.Reading b ask ps answer last calls intake held left before ring old m f e whole u en is few none = absurd f
+begins_rest {B} {H} V at.Asked b ask ps answer last calls intake held left before ring old m f e whole u en is few none = absurd f
+begins_rest {B} {H} V (at.Refused fault) b ask ps answer last calls intake held left before ring old m f e whole u en is few none = absurd f
+begins_rest {B} {H} V (at.Answering framer) b ask ps answer last calls intake held left before ring old m f e whole u en is few none =
+    subst (λ (d : At B H). RestsAt d intake left ring (calls + 1) m) (sym e.0) (
       more_behind (length ring) (length framer.rest.bytes) f.1,
-      goes_on_behind ask ps answer calls intake whole few (body_after framer.rest.rule framer.after)
+      goes_on_behind ask ps answer calls intake old m held u en whole few (body_after framer.rest.rule framer.after)
           (f.0.after ∙ ap (λ (l : Bool). (reply ask ps answer l).after) is),
     )
-begins_rest {B} {H} V (at.Writing keeps) b ask ps answer last calls intake held left before ring f e whole is few none = absurd f
-begins_rest {B} {H} V (at.Handing who) b ask ps answer last calls intake held left before ring f e whole is few none =
-    told_rest V who held ring left intake (calls + 1) b e
-begins_rest {B} {H} V at.Refusing b ask ps answer last calls intake held left before ring f e whole is few none = absurd f
-begins_rest {B} {H} V (at.Taken who) b ask ps answer last calls intake held left before ring f e whole is few none = absurd f
-begins_rest {B} {H} V (at.Speaking who) b ask ps answer last calls intake held left before ring f e whole is few none = absurd f
-begins_rest {B} {H} V at.Parting b ask ps answer last calls intake held left before ring f e whole is few none = absurd f
-begins_rest {B} {H} V (at.Over ended) b ask ps answer last calls intake held left before ring f e whole is few none =
-    subst (λ (d : At B H). RestsAt d intake left ring (calls + 1)) (sym e.0) tt
+begins_rest {B} {H} V (at.Writing keeps) b ask ps answer last calls intake held left before ring old m f e whole u en is few none = absurd f
+begins_rest {B} {H} V (at.Handing who) b ask ps answer last calls intake held left before ring old m f e whole u en is few none =
+    told_rest V who held ring left intake (calls + 1) m b e
+begins_rest {B} {H} V at.Refusing b ask ps answer last calls intake held left before ring old m f e whole u en is few none = absurd f
+begins_rest {B} {H} V (at.Taken who) b ask ps answer last calls intake held left before ring old m f e whole u en is few none = absurd f
+begins_rest {B} {H} V (at.Speaking who) b ask ps answer last calls intake held left before ring old m f e whole u en is few none = absurd f
+begins_rest {B} {H} V at.Parting b ask ps answer last calls intake held left before ring old m f e whole u en is few none = absurd f
+begins_rest {B} {H} V (at.Over ended) b ask ps answer last calls intake held left before ring old m f e whole u en is few none =
+    subst (λ (d : At B H). RestsAt d intake left ring (calls + 1) m) (sym e.0) tt
 
 -- what stands behind a run, where that hijacker was told them
 pub hands_hold : {B H : Type 0} (V : Voice H) (T : Teller H) (s : Seen) (peer : List ℕ) (c : Kept) (a b : At B H) (ask : Ask) (ps : Pairs)
@@ -205,7 +249,7 @@ hands_hold {B} {H} V T s peer c a b ask ps answer last before ring left f e same
         → HoldsAt b V T s h.over h.given h.sent (with_told c ring left)
     stays d is r l x =
         subst (λ (y : At B H). HoldsAt y V T s h.over h.given h.sent (with_told c ring left)) (sym is)
-        (subst (λ (k : Kept). HoldsAt d V T s h.over h.given h.sent k) (kept_same c (with_told c ring left) refl l (r ∙ same) refl refl) x)
+        (subst (λ (k : Kept). HoldsAt d V T s h.over h.given h.sent k) (kept_same c (with_told c ring left) refl l (r ∙ same) refl refl refl) x)
 
     go : (d : At B H) → BeginsAt ask ps answer last d → HandsOn V d c.held before b ring left → HoldsAt d V T s h.over h.given h.sent c
         → HoldsAt b V T s h.over h.given h.sent (with_told c ring left)
@@ -215,7 +259,7 @@ hands_hold {B} {H} V T s peer c a b ask ps answer last before ring left f e same
     go (at.Answering framer) y z x = stays (at.Answering framer) z.0 z.1 z.2 x
     go (at.Writing keeps) y z x = absurd y
     go (at.Handing who) y z x =
-        hands_at V T s h.over h.given h.sent c who ring left b z x.0 x.1 x.2 x.3 x.4.count x.4.live
+        hands_at V T s h.over h.given h.sent c who ring left b z x.0 x.1 x.2 x.3 x.4.count x.4.closes x.4.live
         (subst (λ (l : List ℕ). Stands V T h.over h.given h.sent x.0 (replies x.1) c.held (l ++ [])) none x.4.stands)
     go at.Refusing y z x = absurd y
     go (at.Taken who) y z x = absurd y

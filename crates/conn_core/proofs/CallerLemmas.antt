@@ -1,19 +1,21 @@
 -- What crates above may cite: lemmas over the public definitions.
 use Rattle.std.proofs.Common.{◌≡◌, ◌≢◌, ℕ, zero, suc, ◌+◌, ◌-◌, ◌^◌, ◌<◌, min, Bool, List, refl, subst, arith, None, Some}
+use Rattle.std.specs.Prelude.{is_some}
 use Rattle.rack_types.specs.declared.body.Body.{Ghosts}
 use Rattle.rack_outside.specs.Link.{Seen}
 use Rattle.message_framing.specs.declared.intake.Intake.{Intake}
 use Rattle.talk_core.specs.Counts.{counted_by}
 use Rattle.talk_core.specs.declared.ended.Why.{Why}
-use Rattle.talk_core.specs.Ended.{Shows}
+use Rattle.talk_core.specs.Ended.{Past, Shows}
 use Rattle.talk_core.specs.Tail.{Voice}
 use Rattle.talk_core.specs.Teller.{Stacks, Teller, tell}
 use Rattle.conn_core.specs.declared.conn.Conn.{Conn}
+use Rattle.conn_core.specs.declared.moments.Ending.{Ending}
 use Rattle.conn_core.specs.declared.place.At.{At}
 use Rattle.conn_core.specs.declared.place.At.TheVariants as at
 use Rattle.conn_core.specs.declared.state.State.{State}
 use Rattle.conn_core.specs.declared.state.State.TheVariants as state
-use Rattle.conn_core.specs.Holds.{kept, past, Holds, HoldsAt}
+use Rattle.conn_core.specs.Holds.{kept, Holds, HoldsAt}
 use Rattle.conn_core.specs.Place.{state_at}
 use Rattle.conn_core.specs.Plain.{EndsPlainly}
 use Rattle.conn_core.specs.Rests.{RestsAt}
@@ -38,24 +40,24 @@ taken_by (suc n) t fits = let some : 0 < suc n = omega arith in counted_sum (suc
 pub unended : {L B H : Type 0} {g : Ghosts B} (c : Conn L B H g) (s : State) → (shown c).state ≡ s → s ≢ state.Over → (shown c).why ≡ None
 unended {L} {B} {H} {g} c s e h = no_why_at c.inside.value.at s e h
 
-few_at : {B H : Type 0} (a : At B H) (intake : Intake) (held ring : List ℕ) (calls : ℕ) → RestsAt a intake held ring calls
+few_at : {B H : Type 0} (a : At B H) (intake : Intake) (held ring : List ℕ) (calls : ℕ) (m : Ending) → RestsAt a intake held ring calls m
     → state_at a ≡ state.Ready → calls < 10000
-few_at {B} {H} at.Reading intake held ring calls h e = cc
-few_at {B} {H} at.Asked intake held ring calls h e = h.1.0
-few_at {B} {H} (at.Refused f) intake held ring calls h e = h.1
-few_at {B} {H} (at.Answering f) intake held ring calls h e = cc
-few_at {B} {H} (at.Writing keeps) intake held ring calls h e = cc
-few_at {B} {H} (at.Handing x) intake held ring calls h e = cc
-few_at {B} {H} at.Refusing intake held ring calls h e = cc
-few_at {B} {H} (at.Taken x) intake held ring calls h e = cc
-few_at {B} {H} (at.Speaking x) intake held ring calls h e = cc
-few_at {B} {H} at.Parting intake held ring calls h e = cc
-few_at {B} {H} (at.Over w) intake held ring calls h e = cc
+few_at {B} {H} at.Reading intake held ring calls m h e = cc
+few_at {B} {H} at.Asked intake held ring calls m h e = h.1.0
+few_at {B} {H} (at.Refused f) intake held ring calls m h e = h.1.0
+few_at {B} {H} (at.Answering f) intake held ring calls m h e = cc
+few_at {B} {H} (at.Writing keeps) intake held ring calls m h e = cc
+few_at {B} {H} (at.Handing x) intake held ring calls m h e = cc
+few_at {B} {H} at.Refusing intake held ring calls m h e = cc
+few_at {B} {H} (at.Taken x) intake held ring calls m h e = cc
+few_at {B} {H} (at.Speaking x) intake held ring calls m h e = cc
+few_at {B} {H} at.Parting intake held ring calls m h e = cc
+few_at {B} {H} (at.Over w) intake held ring calls m h e = cc
 
 -- where a request stands, fewer than 10,000 were run
 pub few_calls : {L B H : Type 0} {g : Ghosts B} (c : Conn L B H g) → (shown c).state ≡ state.Ready → (shown c).calls < 10000
 few_calls {L} {B} {H} {g} c e =
-    let p = c.inside.value in few_at p.at p.intake p.held p.ring.items p.calls p.rests e
+    let p = c.inside.value in few_at p.at p.intake p.held p.ring.items p.calls p.ending p.rests e
 
 over_at : {B H : Type 0} (a : At B H) (w : Why) → why_at a ≡ Some w → a ≡ at.Over w
 over_at {B} {H} at.Reading w e = cc
@@ -70,19 +72,35 @@ over_at {B} {H} (at.Speaking h) w e = cc
 over_at {B} {H} at.Parting w e = cc
 over_at {B} {H} (at.Over v) w e = cc
 
+-- what it has behind it
+abbrev pub past_in : Seen → Shown → List ℕ → List ℕ → Bool → Past
+past_in s c given sent over = record {
+  given = given;
+  sent = sent;
+  over = over;
+  failed_reads = s.failed_reads;
+  failed_writes = s.failed_writes;
+  calls = c.calls;
+  told = c.ending.told;
+  closing = c.ending.closing;
+}
+
 -- how a connection ended that has this peer, with what its link tells
-pub record EndsAt {H : Type 0} (s : Seen) (peer : List ℕ) (V : Voice H) (T : Teller H) (calls : ℕ) (ended : Why) : Type 0 where
+pub record EndsAt {H : Type 0} (s : Seen) (V : Voice H) (T : Teller H) (c : Shown) (ended : Why) : Type 0 where
   pub given : List ℕ
   pub sent : List ℕ
   pub over : Bool
-  pub shows : Shows s peer given sent over
-  pub ends : EndsPlainly ended V T (past s calls given sent over)
+  pub shows : Shows s c.peer given sent over
+  pub ends : EndsPlainly (is_some c.ending.late) ended V T (past_in s c given sent over)
+
+-- the replies to its requests by some stacks
+abbrev pub told_to : {H : Type 0} → Stacks H → Shown → Teller H
+told_to S c = tell S c.lives c.local c.peer c.ending.closing
 
 pub ends_at : {L B H : Type 0} {g : Ghosts B} (seen : L → Seen) (V : Voice H) (S : Stacks H) (c : Conn L B H g) (w : Why)
-    → (shown c).why ≡ Some w → Holds seen V S c
-    → EndsAt (seen (link_of c)) (shown c).peer V (tell S (shown c).lives (shown c).local (shown c).peer None) (shown c).calls w
+    → (shown c).why ≡ Some w → Holds seen V S c → EndsAt (seen (link_of c)) V (told_to S (shown c)) (shown c) w
 ends_at {L} {B} {H} {g} seen V S c w e h =
-    let T : Teller H = tell S (shown c).lives (shown c).local (shown c).peer None in
+    let T : Teller H = told_to S (shown c) in
     let i = h.stands in
     record {
       given = i.given;
@@ -93,18 +111,17 @@ ends_at {L} {B} {H} {g} seen V S c w e h =
     }
 
 -- what a connection that has this peer stands for while it lives
-pub record PartAt {H : Type 0} (s : Seen) (peer : List ℕ) (V : Voice H) (T : Teller H) (calls : ℕ) : Type 0 where
+pub record PartAt {H : Type 0} (s : Seen) (V : Voice H) (T : Teller H) (c : Shown) : Type 0 where
   pub given : List ℕ
   pub sent : List ℕ
   pub over : Bool
-  pub shows : Shows s peer given sent over
-  pub part : Part V T over given sent calls
+  pub shows : Shows s c.peer given sent over
+  pub part : Part V T over given sent c.calls c.ending.closing (is_some c.ending.late) c.owed
 
 pub part_at : {L B H : Type 0} {g : Ghosts B} (seen : L → Seen) (V : Voice H) (S : Stacks H) (c : Conn L B H g)
-    → (shown c).state ≢ state.Over → Holds seen V S c
-    → PartAt (seen (link_of c)) (shown c).peer V (tell S (shown c).lives (shown c).local (shown c).peer None) (shown c).calls
+    → (shown c).state ≢ state.Over → Holds seen V S c → PartAt (seen (link_of c)) V (told_to S (shown c)) (shown c)
 part_at {L} {B} {H} {g} seen V S c live h =
-    let T : Teller H = tell S (shown c).lives (shown c).local (shown c).peer None in
+    let T : Teller H = told_to S (shown c) in
     let i = h.stands in
     record {
       given = i.given;

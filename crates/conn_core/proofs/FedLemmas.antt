@@ -13,6 +13,7 @@ use Rattle.conn_core.specs.declared.state.State.TheVariants as state
 use Rattle.conn_core.specs.Answers.{FedSo}
 use Rattle.conn_core.specs.Calls.{FeedEnds, FeedTells, Feeds}
 use Rattle.conn_core.specs.Inner.{IsFed, ReadLeaves, ReadsBy, IsHeard, HearLeaves, HearsBy}
+use Rattle.conn_core.specs.Keeps.{Keeps, Read}
 use Rattle.conn_core.specs.Moves.{OffersRoom, size_of, ReadsOnce, OwesRightly}
 use Rattle.conn_core.specs.Place.{state_at}
 use Rattle.conn_core.specs.Shown.{Shown, shows}
@@ -80,11 +81,12 @@ module _ {B H : Type 0} (b : At B H) (o n : Shown) (s u : Seen) (is : n.state �
   read_tells read.Failed result h reading f =
       subst (λ (r : Next). FeedTells r read.Failed o n h.moved.came s u) (sym f) h.leaves.1
 
-  pub feeding_read : (a : LinkRead) (result : Next) → ReadsBy a o n s u → ReadsOnce a o n s u → OwesRightly n → o.state ≡ state.Reading → AnswersSo a result b
-      → Feeds result o n s u
-  feeding_read a result h once owes reading f = record {
+  pub feeding_read : (now : ℕ) (a : LinkRead) (result : Next) → ReadsBy a o n s u → ReadsOnce a o n s u → Keeps now (Read a) o n → OwesRightly n → o.state ≡ state.Reading → AnswersSo a result b
+      → Feeds now result o n s u
+  feeding_read now a result h once keeps owes reading f = record {
     answer = a;
     once = once;
+    keeps = keeps;
     moved = h.moved;
     came_is = read_gave a n h.moved.came s u h.leaves;
     calls = h.calls;
@@ -116,11 +118,12 @@ module _ {B H : Type 0} (b : At B H) (o n : Shown) (s u : Seen) (is : n.state �
   hear_tells read.Failed result h held f =
       subst (λ (r : Next). FeedTells r read.Failed o n h.moved.came s u) (sym f) h.leaves.1
 
-  pub feeding_heard : (a : LinkRead) (result : Next) → HearsBy a o n s u → ReadsOnce a o n s u → OwesRightly n → o.state ≡ state.Hijacked → AnswersSo a result b
-      → Feeds result o n s u
-  feeding_heard a result h once owes held f = record {
+  pub feeding_heard : (now : ℕ) (a : LinkRead) (result : Next) → HearsBy a o n s u → ReadsOnce a o n s u → Keeps now (Read a) o n → OwesRightly n → o.state ≡ state.Hijacked → AnswersSo a result b
+      → Feeds now result o n s u
+  feeding_heard now a result h once keeps owes held f = record {
     answer = a;
     once = once;
+    keeps = keeps;
     moved = h.moved;
     came_is = hear_gave a n h.moved.came s u h.leaves;
     calls = h.calls;
@@ -133,24 +136,25 @@ module _ {B H : Type 0} (b : At B H) (o n : Shown) (s u : Seen) (is : n.state �
   }
 
 -- a read was made for the reader of requests, or for the hijacker that has the connection
-abbrev pub Went : LinkRead → Shown → Shown → Seen → Seen → Type 0
-Went a o n s u = (((o.state ≡ state.Reading) × ReadsBy a o n s u) ⊎ ((o.state ≡ state.Hijacked) × HearsBy a o n s u)) × ReadsOnce a o n s u
+abbrev pub Went : ℕ → LinkRead → Shown → Shown → Seen → Seen → Type 0
+Went now a o n s u =
+    (((o.state ≡ state.Reading) × ReadsBy a o n s u) ⊎ ((o.state ≡ state.Hijacked) × HearsBy a o n s u)) × ReadsOnce a o n s u × Keeps now (Read a) o n
 
-pub feeding_end : {B H : Type 0} (b : At B H) (o n : Shown) (s u : Seen) (a : LinkRead) (result : Next) → n.state ≡ state_at b → OwesRightly n → Went a o n s u
-    → AnswersSo a result b → Feeds result o n s u
-feeding_end {B} {H} b o n s u a result is owes went f =
+pub feeding_end : {B H : Type 0} (now : ℕ) (b : At B H) (o n : Shown) (s u : Seen) (a : LinkRead) (result : Next) → n.state ≡ state_at b → OwesRightly n → Went now a o n s u
+    → AnswersSo a result b → Feeds now result o n s u
+feeding_end {B} {H} now b o n s u a result is owes went f =
     elim went.0 [
-      | inl by ↦ feeding_read b o n s u is a result by.1 went.1 owes by.0 f
-      | inr by ↦ feeding_heard b o n s u is a result by.1 went.1 owes by.0 f
+      | inl by ↦ feeding_read b o n s u is now a result by.1 went.1 went.2 owes by.0 f
+      | inr by ↦ feeding_heard b o n s u is now a result by.1 went.1 went.2 owes by.0 f
     ]
 
 -- the same, where two ways come together
-pub went_same : {B H L : Type 0} {g : Ghosts B} (seen : L → Seen) (o : Shown) (s : Seen) (new now : Inside B H g) (k l : L) (a d : LinkRead)
-    → now ≡ new → l ≡ k → d ≡ a → Went a o (shows new) s (seen k) → Went d o (shows now) s (seen l)
-went_same {B} {H} {L} {g} seen o s new now k l a d self link is went =
-    subst (λ (x : Inside B H g). Went d o (shows x) s (seen l)) (sym self)
-    (subst (λ (x : L). Went d o (shows new) s (seen x)) (sym link)
-    (subst (λ (x : LinkRead). Went x o (shows new) s (seen k)) (sym is) went))
+pub went_same : {B H L : Type 0} {g : Ghosts B} (moment : ℕ) (seen : L → Seen) (o : Shown) (s : Seen) (new now : Inside B H g) (k l : L) (a d : LinkRead)
+    → now ≡ new → l ≡ k → d ≡ a → Went moment a o (shows new) s (seen k) → Went moment d o (shows now) s (seen l)
+went_same {B} {H} {L} {g} moment seen o s new now k l a d self link is went =
+    subst (λ (x : Inside B H g). Went moment d o (shows x) s (seen l)) (sym self)
+    (subst (λ (x : L). Went moment d o (shows new) s (seen x)) (sym link)
+    (subst (λ (x : LinkRead). Went moment x o (shows new) s (seen k)) (sym is) went))
 
 -- another state than Reading
 pub unread : (x : State) → (x ≡ state.Ready) ⊎ ((x ≡ state.Answering) ⊎ ((x ≡ state.Hijacked) ⊎ (x ≡ state.Over))) → x ≢ state.Reading

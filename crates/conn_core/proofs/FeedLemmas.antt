@@ -1,5 +1,6 @@
 -- What stands behind the bytes held, once they were fed.
-use Rattle.std.proofs.Common.{◌≡◌, ℕ, ◌+◌, ◌<◌, Bool, false, List, [], ◌++◌, take, drop, refl, sym, ap, subst, ◌∙◌, append_assoc, arith}
+use Rattle.std.proofs.Common.{◌≡◌, ℕ, ◌+◌, ◌<◌, Bool, false, List, [], ◌++◌, take, drop, refl, sym, ap, subst, ◌∙◌, append_assoc, arith, None}
+use Rattle.std.specs.Prelude.{is_some}
 use Rattle.std.proofs.lemmas.List.{append-nil, take-append-drop}
 use Rattle.rack_outside.specs.Link.{Seen}
 use Rattle.message_framing.specs.declared.intake.Intake.{Intake}
@@ -8,28 +9,37 @@ use Rattle.talk_core.specs.declared.ended.Why.TheVariants as why
 use Rattle.talk_core.specs.Stands.{Stands, silent}
 use Rattle.talk_core.specs.Tail.{Voice}
 use Rattle.talk_core.specs.Teller.{Teller}
+use Rattle.talk_core.proofs.CallerLemmas.{closes_none}
+use Rattle.conn_core.specs.declared.moments.Ending.{Ending}
 use Rattle.conn_core.specs.declared.place.At.{At}
 use Rattle.conn_core.specs.declared.place.At.TheVariants as at
 use Rattle.conn_core.specs.Holds.{Kept, past, HoldsAt}
 use Rattle.conn_core.specs.Plain.{EndsPlainly}
-use Rattle.conn_core.specs.Rests.{RestsAt}
+use Rattle.conn_core.specs.Rests.{RestsAt, IsUnended}
 use Rattle.conn_core.specs.Steps.{FeedsHeld}
+use Rattle.conn_core.proofs.PlaceLemmas.{unclosed}
 
 -- the parts that an intake and the bytes held make where nothing is owed
-abbrev pub fed_kept : Intake → List ℕ → ℕ → ℕ → Kept
-fed_kept intake held calls taken = record { intake = intake; held = held; ring = []; calls = calls; taken = taken }
+abbrev pub fed_kept : Kept → Intake → List ℕ → ℕ → Kept
+fed_kept c intake held taken = record c { intake = intake; held = held; ring = []; taken = taken }
 
 -- between replies, with want of memory
-pub silent_lacks : {H : Type 0} (V : Voice H) (T : Teller H) (s : Seen) (over : Bool) (given sent rest : List ℕ) (calls : ℕ)
-    → Stands V T over given sent calls silent rest [] → EndsPlainly why.NoMemory V T (past s calls given sent over)
-silent_lacks {H} V T s over given sent rest calls h =
-    let n : calls ≡ calls + 0 = omega arith in
-    ([], record { word = silent; untimed = tt; partly = record { k = calls; rest = rest; calls_is = n; stands = h; closes = tt } })
+pub silent_lacks : {H : Type 0} (V : Voice H) (T : Teller H) (s : Seen) (over : Bool) (given sent rest : List ℕ) (c : Kept) → c.ending.closing ≡ None
+    → Stands V T over given sent c.calls silent rest [] → EndsPlainly (is_some c.ending.late) why.NoMemory V T (past s c given sent over)
+silent_lacks {H} V T s over given sent rest c none h =
+    let n : c.calls ≡ c.calls + 0 = omega arith in (
+      [],
+      record {
+        word = silent;
+        untimed = tt;
+        partly = record { k = c.calls; rest = rest; calls_is = n; stands = h; closes = closes_none c.ending.closing c.calls ⊥ rest none };
+      },
+    )
 
-module _ {B H : Type 0} (V : Voice H) (T : Teller H) (s : Seen) (over : Bool) (given sent : List ℕ) (old new : Intake) (held left : List ℕ)
-    (calls taken : ℕ) (now : List ℕ) (live : over ≡ false) where
-  pub feeds_hold : (a : At B H) → FeedsHeld old held new left a → Fed old now → Stands V T over given sent calls silent (now ++ held) []
-      → HoldsAt a V T s over given sent (fed_kept new left calls taken)
+module _ {B H : Type 0} (V : Voice H) (T : Teller H) (s : Seen) (over : Bool) (given sent : List ℕ) (c : Kept) (old new : Intake)
+    (held left : List ℕ) (taken : ℕ) (now : List ℕ) (live : over ≡ false) (unended : IsUnended c.ending) where
+  pub feeds_hold : (a : At B H) → FeedsHeld old held new left a → Fed old now
+      → Stands V T over given sent c.calls silent (now ++ held) [] → HoldsAt a V T s over given sent (fed_kept c new left taken)
   feeds_hold at.Reading f fed h =
       let rest : now ++ held ≡ (now ++ held) ++ left = sym (ap (λ x. (now ++ held) ++ x) f.1 ∙ append-nil (now ++ held)) in (
         now ++ held,
@@ -39,7 +49,8 @@ module _ {B H : Type 0} (V : Voice H) (T : Teller H) (s : Seen) (over : Bool) (g
           fed = f.0.holds now fed;
           ring = refl;
           live = live;
-          stands = subst (λ (x : List ℕ). Stands V T over given sent calls silent x []) rest h;
+          unended = unended;
+          stands = subst (λ (x : List ℕ). Stands V T over given sent c.calls silent x []) rest h;
         },
       )
   feeds_hold at.Asked f fed h =
@@ -54,7 +65,8 @@ module _ {B H : Type 0} (V : Voice H) (T : Teller H) (s : Seen) (over : Bool) (g
           fed = f.1.holds now fed;
           ring = refl;
           live = live;
-          stands = subst (λ (x : List ℕ). Stands V T over given sent calls silent x []) parts h;
+          unended = unended;
+          stands = subst (λ (x : List ℕ). Stands V T over given sent c.calls silent x []) parts h;
         },
       )
   feeds_hold (at.Refused fault) f fed h =
@@ -66,7 +78,8 @@ module _ {B H : Type 0} (V : Voice H) (T : Teller H) (s : Seen) (over : Bool) (g
           fed = f.0.holds now fed;
           ring = refl;
           live = live;
-          stands = subst (λ (x : List ℕ). Stands V T over given sent calls silent x []) rest h;
+          unended = unended;
+          stands = subst (λ (x : List ℕ). Stands V T over given sent c.calls silent x []) rest h;
         },
       )
   feeds_hold (at.Answering framer) f fed h = absurd f
@@ -85,19 +98,19 @@ module _ {B H : Type 0} (V : Voice H) (T : Teller H) (s : Seen) (over : Bool) (g
   feeds_hold (at.Over why.ReadFailed) f fed h = absurd f
   feeds_hold (at.Over why.WriteFailed) f fed h = absurd f
   feeds_hold (at.Over (why.Halted level)) f fed h = absurd f
-  feeds_hold (at.Over why.NoMemory) f fed h = silent_lacks V T s over given sent (now ++ held) calls h
+  feeds_hold (at.Over why.NoMemory) f fed h = silent_lacks V T s over given sent (now ++ held) (fed_kept c new left taken) (unclosed c.ending unended) h
   feeds_hold (at.Over why.Hijacked) f fed h = absurd f
 
-pub feeds_rest : {B H : Type 0} (a : At B H) (old new : Intake) (held left : List ℕ) (calls : ℕ) → FeedsHeld old held new left a
-    → calls < 10000 → RestsAt a new left [] calls
-feeds_rest {B} {H} at.Reading old new held left calls f few = (f.1, (refl, few))
-feeds_rest {B} {H} at.Asked old new held left calls f few = (refl, (few, f.1.whole))
-feeds_rest {B} {H} (at.Refused fault) old new held left calls f few = (refl, few)
-feeds_rest {B} {H} (at.Answering framer) old new held left calls f few = absurd f
-feeds_rest {B} {H} (at.Writing keeps) old new held left calls f few = absurd f
-feeds_rest {B} {H} (at.Handing who) old new held left calls f few = absurd f
-feeds_rest {B} {H} at.Refusing old new held left calls f few = absurd f
-feeds_rest {B} {H} (at.Taken who) old new held left calls f few = absurd f
-feeds_rest {B} {H} (at.Speaking who) old new held left calls f few = absurd f
-feeds_rest {B} {H} at.Parting old new held left calls f few = absurd f
-feeds_rest {B} {H} (at.Over ended) old new held left calls f few = tt
+pub feeds_rest : {B H : Type 0} (a : At B H) (old new : Intake) (held left : List ℕ) (calls : ℕ) (e : Ending) → FeedsHeld old held new left a
+    → calls < 10000 → IsUnended e → RestsAt a new left [] calls e
+feeds_rest {B} {H} at.Reading old new held left calls e f few u = (f.1, (refl, (few, u)))
+feeds_rest {B} {H} at.Asked old new held left calls e f few u = (refl, (few, (f.1.whole, u)))
+feeds_rest {B} {H} (at.Refused fault) old new held left calls e f few u = (refl, (few, u))
+feeds_rest {B} {H} (at.Answering framer) old new held left calls e f few u = absurd f
+feeds_rest {B} {H} (at.Writing keeps) old new held left calls e f few u = absurd f
+feeds_rest {B} {H} (at.Handing who) old new held left calls e f few u = absurd f
+feeds_rest {B} {H} at.Refusing old new held left calls e f few u = absurd f
+feeds_rest {B} {H} (at.Taken who) old new held left calls e f few u = absurd f
+feeds_rest {B} {H} (at.Speaking who) old new held left calls e f few u = absurd f
+feeds_rest {B} {H} at.Parting old new held left calls e f few u = absurd f
+feeds_rest {B} {H} (at.Over ended) old new held left calls e f few u = tt

@@ -16,6 +16,7 @@ use Rattle.talk_core.specs.declared.ended.Why.TheVariants as why
 use Rattle.talk_core.specs.Stands.{Stands, replies}
 use Rattle.talk_core.specs.Tail.{Voice}
 use Rattle.talk_core.specs.Teller.{Teller}
+use Rattle.conn_core.specs.declared.moments.Ending.{Ending}
 use Rattle.conn_core.specs.declared.place.At.{At}
 use Rattle.conn_core.specs.declared.place.At.TheVariants as at
 use Rattle.conn_core.specs.Holds.{Kept, HoldsAt, StandsAt}
@@ -69,6 +70,7 @@ module _ {B H : Type 0} (V : Voice H) (T : Teller H) (s : Seen) (over : Bool) (g
         record {
           count = h.4.count;
           live = h.4.live;
+          closes = h.4.closes;
           stands = subst (λ (z : List ℕ). Stands V T over given sent h.0 (replies h.1) c.held z) moved h.4.stands;
         },
       )
@@ -82,6 +84,7 @@ module _ {B H : Type 0} (V : Voice H) (T : Teller H) (s : Seen) (over : Bool) (g
         record {
           count = h.4.count;
           live = h.4.live;
+          closes = h.4.closes;
           stands = subst (λ (z : List ℕ). Stands V T over given sent h.0 (replies h.1) c.held z) moved h.4.stands;
         },
       )
@@ -96,6 +99,7 @@ module _ {B H : Type 0} (V : Voice H) (T : Teller H) (s : Seen) (over : Bool) (g
         record {
           count = h.4.count;
           live = h.4.live;
+          closes = h.4.closes;
           stands = subst (λ (z : List ℕ). Stands V T over given sent h.0 (replies h.1) c.held z) moved h.4.stands;
         },
       )
@@ -159,47 +163,47 @@ some_moved : (xs ys zs ws : List ℕ) → zs ++ ws ≡ xs ++ ys → 0 < length x
 some_moved xs ys zs ws e some = omega (arith, some, ap length e, length-append xs ys, length-append zs ws)
 
 -- what is owed stays
-pub fills_rest : {B H : Type 0} (a b : At B H) (x y : Buffer ℕ) (intake : Intake) (held : List ℕ) (calls : ℕ) → FillsTo a x b y → IsSaying a
-    → RestsAt a intake held x.items calls → RestsAt b intake held y.items calls
-fills_rest {B} {H} at.Reading b x y intake held calls e is h = absurd is
-fills_rest {B} {H} at.Asked b x y intake held calls e is h = absurd is
-fills_rest {B} {H} (at.Refused fault) b x y intake held calls e is h = absurd is
-fills_rest {B} {H} (at.Answering f) at.Reading x y intake held calls e is h = absurd e
-fills_rest {B} {H} (at.Answering f) at.Asked x y intake held calls e is h = absurd e
-fills_rest {B} {H} (at.Answering f) (at.Refused fault) x y intake held calls e is h = absurd e
-fills_rest {B} {H} (at.Answering f) (at.Answering new) x y intake held calls e is h = (
+pub fills_rest : {B H : Type 0} (a b : At B H) (x y : Buffer ℕ) (intake : Intake) (held : List ℕ) (calls : ℕ) (m : Ending) → FillsTo a x b y → IsSaying a
+    → RestsAt a intake held x.items calls m → RestsAt b intake held y.items calls m
+fills_rest {B} {H} at.Reading b x y intake held calls m e is h = absurd is
+fills_rest {B} {H} at.Asked b x y intake held calls m e is h = absurd is
+fills_rest {B} {H} (at.Refused fault) b x y intake held calls m e is h = absurd is
+fills_rest {B} {H} (at.Answering f) at.Reading x y intake held calls m e is h = absurd e
+fills_rest {B} {H} (at.Answering f) at.Asked x y intake held calls m e is h = absurd e
+fills_rest {B} {H} (at.Answering f) (at.Refused fault) x y intake held calls m e is h = absurd e
+fills_rest {B} {H} (at.Answering f) (at.Answering new) x y intake held calls m e is h = (
   some_moved x.items f.rest.bytes y.items new.rest.bytes (fill_moves f.rest new.rest (Ok Full) x y e.0) h.0,
-  subst (λ (z : After). GoesOn z intake calls)
+  subst (λ (z : After). GoesOn z intake calls m)
       (sym (ap (λ (o : Option BodyRule). body_after o new.after) e.0.rule ∙ ap (body_after f.rest.rule) e.1)) h.1,
 )
-fills_rest {B} {H} (at.Answering f) (at.Writing keeps) x y intake held calls e is h = (
+fills_rest {B} {H} (at.Answering f) (at.Writing keeps) x y intake held calls m e is h = (
   some_of x.items f.rest.bytes y.items (written_ring f x y keeps e) h.0,
-  subst (λ (z : After). GoesOn z intake calls)
+  subst (λ (z : After). GoesOn z intake calls m)
       (sym (e.keeps_is ∙ after_by_rule f e.new e.result x y e.unfilled e.fills e.after_is)) h.1,
 )
-fills_rest {B} {H} (at.Answering f) (at.Handing who) x y intake held calls e is h = (
+fills_rest {B} {H} (at.Answering f) (at.Handing who) x y intake held calls m e is h = (
   some_of x.items f.rest.bytes y.items (handed_ring f x y who e) h.0,
-  subst (λ (z : After). GoesOn z intake calls) (sym (sym e.taken ∙ after_by_rule f e.new e.result x y e.unfilled e.fills e.after_is)) h.1,
+  subst (λ (z : After). GoesOn z intake calls m) (sym (sym e.taken ∙ after_by_rule f e.new e.result x y e.unfilled e.fills e.after_is)) h.1,
 )
-fills_rest {B} {H} (at.Answering f) at.Refusing x y intake held calls e is h = absurd e
-fills_rest {B} {H} (at.Answering f) (at.Taken who) x y intake held calls e is h = absurd e
-fills_rest {B} {H} (at.Answering f) (at.Speaking who) x y intake held calls e is h = absurd e
-fills_rest {B} {H} (at.Answering f) at.Parting x y intake held calls e is h = absurd e
-fills_rest {B} {H} (at.Answering f) (at.Over ended) x y intake held calls e is h = tt
-fills_rest {B} {H} (at.Writing keeps) b x y intake held calls e is h =
-    subst (λ (d : At B H). RestsAt d intake held y.items calls) (sym e.0)
-    (subst (λ (z : Buffer ℕ). RestsAt {B = B} {H = H} (at.Writing keeps) intake held z.items calls) (sym e.1) h)
-fills_rest {B} {H} (at.Handing who) b x y intake held calls e is h =
-    subst (λ (d : At B H). RestsAt d intake held y.items calls) (sym e.0)
-    (subst (λ (z : Buffer ℕ). RestsAt {B = B} {H = H} (at.Handing who) intake held z.items calls) (sym e.1) h)
-fills_rest {B} {H} (at.Taken who) b x y intake held calls e is h = absurd is
-fills_rest {B} {H} (at.Speaking who) b x y intake held calls e is h =
-    subst (λ (d : At B H). RestsAt d intake held y.items calls) (sym e.0)
-    (subst (λ (z : Buffer ℕ). RestsAt {B = B} {H = H} (at.Speaking who) intake held z.items calls) (sym e.1) h)
-fills_rest {B} {H} at.Parting b x y intake held calls e is h =
-    subst (λ (d : At B H). RestsAt d intake held y.items calls) (sym e.0)
-    (subst (λ (z : Buffer ℕ). RestsAt {B = B} {H = H} at.Parting intake held z.items calls) (sym e.1) h)
-fills_rest {B} {H} at.Refusing b x y intake held calls e is h =
-    subst (λ (d : At B H). RestsAt d intake held y.items calls) (sym e.0)
-    (subst (λ (z : Buffer ℕ). RestsAt {B = B} {H = H} at.Refusing intake held z.items calls) (sym e.1) h)
-fills_rest {B} {H} (at.Over ended) b x y intake held calls e is h = absurd is
+fills_rest {B} {H} (at.Answering f) at.Refusing x y intake held calls m e is h = absurd e
+fills_rest {B} {H} (at.Answering f) (at.Taken who) x y intake held calls m e is h = absurd e
+fills_rest {B} {H} (at.Answering f) (at.Speaking who) x y intake held calls m e is h = absurd e
+fills_rest {B} {H} (at.Answering f) at.Parting x y intake held calls m e is h = absurd e
+fills_rest {B} {H} (at.Answering f) (at.Over ended) x y intake held calls m e is h = tt
+fills_rest {B} {H} (at.Writing keeps) b x y intake held calls m e is h =
+    subst (λ (d : At B H). RestsAt d intake held y.items calls m) (sym e.0)
+    (subst (λ (z : Buffer ℕ). RestsAt {B = B} {H = H} (at.Writing keeps) intake held z.items calls m) (sym e.1) h)
+fills_rest {B} {H} (at.Handing who) b x y intake held calls m e is h =
+    subst (λ (d : At B H). RestsAt d intake held y.items calls m) (sym e.0)
+    (subst (λ (z : Buffer ℕ). RestsAt {B = B} {H = H} (at.Handing who) intake held z.items calls m) (sym e.1) h)
+fills_rest {B} {H} (at.Taken who) b x y intake held calls m e is h = absurd is
+fills_rest {B} {H} (at.Speaking who) b x y intake held calls m e is h =
+    subst (λ (d : At B H). RestsAt d intake held y.items calls m) (sym e.0)
+    (subst (λ (z : Buffer ℕ). RestsAt {B = B} {H = H} (at.Speaking who) intake held z.items calls m) (sym e.1) h)
+fills_rest {B} {H} at.Parting b x y intake held calls m e is h =
+    subst (λ (d : At B H). RestsAt d intake held y.items calls m) (sym e.0)
+    (subst (λ (z : Buffer ℕ). RestsAt {B = B} {H = H} at.Parting intake held z.items calls m) (sym e.1) h)
+fills_rest {B} {H} at.Refusing b x y intake held calls m e is h =
+    subst (λ (d : At B H). RestsAt d intake held y.items calls m) (sym e.0)
+    (subst (λ (z : Buffer ℕ). RestsAt {B = B} {H = H} at.Refusing intake held z.items calls m) (sym e.1) h)
+fills_rest {B} {H} (at.Over ended) b x y intake held calls m e is h = absurd is

@@ -5,6 +5,7 @@ use Rattle.rack_outside.specs.Told.{Rose}
 use Rattle.talk_core.specs.declared.ended.Why.{Why}
 use Rattle.conn_core.specs.declared.left.Said.{Said}
 use Rattle.conn_core.specs.declared.left.Said.TheVariants as said
+use Rattle.conn_core.specs.declared.moments.Late.{Late}
 use Rattle.conn_core.specs.declared.place.At.{At}
 use Rattle.conn_core.specs.declared.state.Next.{Next}
 use Rattle.conn_core.specs.declared.state.Next.TheVariants as next
@@ -13,11 +14,12 @@ use Rattle.conn_core.specs.declared.state.State.TheVariants as state
 use Rattle.conn_core.specs.Answers.{FlushedSo}
 use Rattle.conn_core.specs.Calls.{TurnEnds, RestsBehind, IsHandedOver, Leaves, IsStillOwing, FlushTells, Flushes, IsOfFlush}
 use Rattle.conn_core.specs.Inner.{writes_of, SaysOn, SaidLeaves, Says}
+use Rattle.conn_core.specs.Keeps.{Drains}
 use Rattle.conn_core.specs.Moves.{IsOwing}
 use Rattle.conn_core.specs.Place.{IsSaying, IsHearing, state_at}
 use Rattle.conn_core.specs.Shown.{Shown, Moved}
 use Rattle.conn_core.proofs.MovingLemmas.{FlushMade}
-use Rattle.conn_core.proofs.MovedLemmas.{moved_same, moved_then, ends_then}
+use Rattle.conn_core.proofs.MovedLemmas.{moved_same, moved_then, ends_then, drains_same, drains_then}
 use Rattle.conn_core.proofs.TurnLemmas.{owing_live, IsBelow, says_rests}
 
 -- what a flush of so many writes did so far
@@ -28,8 +30,9 @@ pub record Flushing (old new : Shown) (s s' : Seen) (writes : ℕ) : Type 0 wher
   pub given : s'.given ≡ s.given
   pub calls : new.calls ≡ old.calls
   pub rests : Leaves old.state old new
+  pub drains : Drains old new
   pub why : IsOfFlush new.why
-  pub ends : TurnEnds new.why s s'
+  pub ends : TurnEnds old.ending.late new.why s s'
 
 -- and each write took bytes
 abbrev pub Falling : Shown → Shown → ℕ → Type 0
@@ -50,8 +53,9 @@ flushing_start o s owing none =
             (subst (λ (b : State). RestsBehind b o.replied o.replied) (sym saying) within)
         | inr held ↦ subst (λ (b : State). Leaves b o o) (sym held.0) (λ e. refl, inl held.0)
       ];
+      drains = drains_same o o refl;
       why = subst IsOfFlush (sym none) tt;
-      ends = subst (λ (w : Option Why). TurnEnds w s s) (sym none) refl;
+      ends = subst (λ (w : Option Why). TurnEnds o.ending.late w s s) (sym none) refl;
     }
 
 -- a hijacker that has the connection keeps it behind a write, or it ended
@@ -87,9 +91,11 @@ state_before state.Hijacked o m n h owing on e = held_still m h.1 owing
 state_before state.Over o m n h owing on e = absurd h
 
 pub flushing_step : (a : Said) (o m n : Shown) (s t u : Seen) (w x : ℕ) → w + writes_of a ≡ x → x ≤ 16 → Flushing o m s t w → Says a m n t u
-    → IsOwing m → m.why ≡ None → IsBelow n.state n.replied → Flushing o n s u x
-flushing_step a o m n s t u w x is few h p owing none below =
+    → IsOwing m → m.why ≡ None → IsBelow n.state n.replied → n.ending ≡ m.ending → Flushing o n s u x
+flushing_step a o m n s t u w x is few h p owing none below ending =
     let nothing : 0 + 0 ≡ 0 = omega arith in
+    let later : m.calls ≤ n.calls = omega (arith, p.calls) in
+    let earlier : o.calls ≤ m.calls = omega (arith, h.calls) in
     record {
       few = few;
       moved = moved_then o m n s t u 0 w 0 (writes_of a) 0 x nothing is h.moved p.moved;
@@ -97,8 +103,10 @@ flushing_step a o m n s t u w x is few h p owing none below =
       given = p.given ∙ h.given;
       calls = p.calls ∙ h.calls;
       rests = leaves_on o.state o m n h.rests owing p.replied below;
+      drains = drains_then o m n later earlier h.drains (drains_same m n ending);
       why = p.why;
-      ends = ends_then m.why n.why s t u none h.moved.failed_reads h.moved.failed_writes p.ends h.ends;
+      ends = ends_then o.ending.late m.why n.why s t u none h.moved.failed_reads h.moved.failed_writes
+          (subst (λ (y : Option Late). TurnEnds y n.why t u) h.drains.late p.ends) h.ends;
     }
 
 pub falling_start : (o : Shown) → Falling o o 0
@@ -163,8 +171,8 @@ module _ {B H : Type 0} (a : At B H) (o n : Shown) (s u : Seen) (w : ℕ) (hande
   flush_tells next.Over f = is ∙ f
 
   -- and its end
-  pub flushing_end : (result : Next) → FlushedSo result a w handed → FlushMade o n s u w → Flushes result o n s u
-  flushing_end result f made = record {
+  pub flushing_end : (now : ℕ) (result : Next) → FlushedSo result a w handed → FlushMade now o n s u w → Flushes now result o n s u
+  flushing_end now result f made = record {
     writes = w;
     few = h.few;
     moves = made.moves;
@@ -177,6 +185,7 @@ module _ {B H : Type 0} (a : At B H) (o n : Shown) (s u : Seen) (w : ℕ) (hande
     calls = h.calls;
     falls = falls;
     rests = h.rests;
+    drains = h.drains;
     why = h.why;
     ends = h.ends;
     tells = flush_tells result f;

@@ -1,5 +1,6 @@
 -- What stands once a hijacker was told something.
 use Rattle.std.proofs.Common.{◌≡◌, ℕ, suc, ◌+◌, Bool, true, false, if◌then◌else◌, List, [], ◌++◌, refl, sym, ap, subst, ◌∙◌, append_assoc, arith, Some, inr, ◌-◌, ◌^◌, min, length}
+use Rattle.std.specs.Prelude.{is_some, ⊤}
 use Rattle.std.proofs.lemmas.List.{append-nil}
 use Rattle.hijack_core.specs.declared.hijack.Said.{Said}
 use Rattle.hijack_core.specs.Said.{GoesOnAs}
@@ -11,10 +12,11 @@ use Rattle.message_framing.specs.declared.intake.Intake.{Intake}
 use Rattle.reply_framing.specs.declared.types.After.TheVariants.{Hijack}
 use Rattle.talk_core.specs.declared.ended.Why.TheVariants as why
 use Rattle.talk_core.specs.Ended.{NeedsDrain}
-use Rattle.talk_core.specs.Stands.{Stands, replies, hands_over}
+use Rattle.talk_core.specs.Stands.{Stands, ClosesAt, replies, hands_over}
 use Rattle.talk_core.specs.Tail.{Voice, tail_of, goes_on}
 use Rattle.talk_core.specs.Teller.{Teller}
-use Rattle.talk_core.proofs.CallerLemmas.{taken_more, stands_handed, stands_heard, stands_over, tail_so_far, whole_handed, shows_given, shows_unread, shows_over}
+use Rattle.talk_core.proofs.CallerLemmas.{taken_more, stands_handed, stands_heard, stands_over, tail_so_far, whole_handed, shows_given, shows_unread, shows_over, closes_for}
+use Rattle.conn_core.specs.declared.moments.Ending.{Ending}
 use Rattle.conn_core.specs.declared.place.At.{At}
 use Rattle.conn_core.specs.declared.place.At.TheVariants as at
 use Rattle.conn_core.specs.Holds.{Kept, past, Handed, Hears, HoldsAt, StandsAt}
@@ -22,15 +24,15 @@ use Rattle.conn_core.specs.Place.{IsHearing}
 use Rattle.conn_core.specs.Plain.{EndsPlainly}
 use Rattle.conn_core.specs.Rests.{RestsAt}
 use Rattle.conn_core.specs.Steps.{Tells, TellsEnd, HandsOn, EndsOn}
-use Rattle.conn_core.proofs.PlaceLemmas.{kept_same}
+use Rattle.conn_core.proofs.PlaceLemmas.{kept_same, over_same, closes_taken}
 
 -- the parts behind what a hijacker was told
 abbrev pub with_told : Kept → List ℕ → List ℕ → Kept
-with_told c ring left = record { intake = c.intake; held = left; ring = ring; calls = c.calls; taken = c.taken }
+with_told c ring left = record c { held = left; ring = ring }
 
 -- the same with another count of the bytes that were read
 abbrev pub with_count : Kept → ℕ → Kept
-with_count c taken = record { intake = c.intake; held = c.held; ring = c.ring; calls = c.calls; taken = taken }
+with_count c taken = record c { taken = taken }
 
 -- a hijacker that doesn't go on is at its end, whether the peer ended or not
 stops_on : (over go : Bool) → go ≡ false → (if over then false else go) ≡ false
@@ -62,26 +64,25 @@ pub goes_as : {H : Type 0} (V : Voice H) (h now : H) (bytes piece : List ℕ) �
 goes_as {H} V h now bytes piece first = ap (λ (s : Said). s.go_on) (first.joined piece)
 
 module _ {H : Type 0} (V : Voice H) (T : Teller H) (s : Seen) (over : Bool) (given sent : List ℕ) (c : Kept) (k : ℕ) (r : Parts) (first : H)
-    (rest : List ℕ) (count : c.calls ≡ suc k) where
+    (rest : List ℕ) (count : c.calls ≡ suc k) (closes : ClosesAt c.ending.closing c.calls ⊤ rest) where
   abbrev handed : (ring left : List ℕ) → Stands V T over given sent k (hands_over r first) rest ring → Handed V T over given sent (with_told c ring left)
-  handed ring left stands = record { k = k; request = r; first = first; rest = rest; count = count; stands = stands }
+  handed ring left stands = record { k = k; request = r; first = first; rest = rest; count = count; closes = closes; stands = stands }
 
   -- it said its last, and all of it was sent
-  pub parted : Stands V T over given sent k (hands_over r first) rest [] → goes_on V first rest over ≡ false
-      → EndsPlainly why.Hijacked V T (past s c.calls given sent over)
+  pub parted : Stands V T over given sent k (hands_over r first) rest [] → NeedsDrain (goes_on V first rest over) c.ending.told
+      → EndsPlainly (is_some c.ending.late) why.Hijacked V T (past s c given sent over)
   parted stands ends =
-      let x = whole_handed V T (past s c.calls given sent over) rest r first k stands count tt in
-      (first, rest, x.0, x.1, x.2, no_drain (goes_on V first rest over) 0 ends)
+      let x = whole_handed V T (past s c given sent over) rest r first k stands count closes in (first, rest, x.0, x.1, x.2, ends)
 
   -- what is lacking of it, with want of memory
   pub unspoken : (lacks : List ℕ) → Stands V T over given sent k (hands_over r first) rest lacks
-      → EndsPlainly why.NoMemory V T (past s c.calls given sent over)
+      → EndsPlainly (is_some c.ending.late) why.NoMemory V T (past s c given sent over)
   unspoken lacks stands =
       let n : c.calls ≡ k + 1 = omega (arith, count) in
-      (lacks, record { word = hands_over r first; untimed = tt; partly = record { k = k; rest = rest; calls_is = n; stands = stands; closes = tt } })
+      (lacks, record { word = hands_over r first; untimed = tt; partly = record { k = k; rest = rest; calls_is = n; stands = stands; closes = closes } })
 
 module _ {B H : Type 0} (V : Voice H) (T : Teller H) (s : Seen) (over : Bool) (given sent : List ℕ) (c : Kept) (k : ℕ) (r : Parts) (first : H)
-    (rest : List ℕ) (count : c.calls ≡ suc k) where
+    (rest : List ℕ) (count : c.calls ≡ suc k) (closes : ClosesAt c.ending.closing c.calls ⊤ rest) where
   -- a hijacker, which is what the first one is behind what it was told, was told this piece, and that is all
   pub told_at : (now : H) (piece ring left : List ℕ) (b : At B H) → Tells V now piece b ring left → over ≡ false
       → (V.says first rest).go_on ≡ (V.says now piece).go_on
@@ -97,20 +98,20 @@ module _ {B H : Type 0} (V : Voice H) (T : Teller H) (s : Seen) (over : Bool) (g
   told_at now piece ring left (at.Handing h) e live same behind stands = absurd e
   told_at now piece ring left at.Refusing e live same behind stands = absurd e
   told_at now piece ring left (at.Taken later) e live same behind stands = record {
-    handed = handed V T s over given sent c k r first rest count ring left (subst (λ (x : List ℕ). Stands V T over given sent k (hands_over r first) rest x) (sym e.0.ring_is) stands);
+    handed = handed V T s over given sent c k r first rest count closes ring left (subst (λ (x : List ℕ). Stands V T over given sent k (hands_over r first) rest x) (sym e.0.ring_is) stands);
     live = live;
     goes = same ∙ e.0.goes;
     behind = behind later e.0.behind;
   }
   told_at now piece ring left (at.Speaking later) e live same behind stands = record {
-    handed = handed V T s over given sent c k r first rest count ring left (subst (λ (x : List ℕ). Stands V T over given sent k (hands_over r first) rest x) (sym e.0.ring_is) stands);
+    handed = handed V T s over given sent c k r first rest count closes ring left (subst (λ (x : List ℕ). Stands V T over given sent k (hands_over r first) rest x) (sym e.0.ring_is) stands);
     live = live;
     goes = same ∙ e.0.goes;
     behind = behind later e.0.behind;
   }
   told_at now piece ring left at.Parting e live same behind stands = record {
-    handed = handed V T s over given sent c k r first rest count ring left (subst (λ (x : List ℕ). Stands V T over given sent k (hands_over r first) rest x) (sym e.0.ring_is) stands);
-    ended = stops_on over (V.says first rest).go_on (same ∙ e.0.stops);
+    handed = handed V T s over given sent c k r first rest count closes ring left (subst (λ (x : List ℕ). Stands V T over given sent k (hands_over r first) rest x) (sym e.0.ring_is) stands);
+    ended = no_drain (goes_on V first rest over) c.ending.told (stops_on over (V.says first rest).go_on (same ∙ e.0.stops));
   }
   told_at now piece ring left (at.Over why.Closed) e live same behind stands = absurd e
   told_at now piece ring left (at.Over why.PeerEnd) e live same behind stands = absurd e
@@ -121,10 +122,10 @@ module _ {B H : Type 0} (V : Voice H) (T : Teller H) (s : Seen) (over : Bool) (g
   told_at now piece ring left (at.Over why.ReadFailed) e live same behind stands = absurd e
   told_at now piece ring left (at.Over why.WriteFailed) e live same behind stands = absurd e
   told_at now piece ring left (at.Over (why.Halted level)) e live same behind stands = absurd e
-  told_at now piece ring left (at.Over why.NoMemory) e live same behind stands = unspoken V T s over given sent c k r first rest count (V.says now piece).bytes stands
+  told_at now piece ring left (at.Over why.NoMemory) e live same behind stands = unspoken V T s over given sent c k r first rest count closes (V.says now piece).bytes stands
   told_at now piece ring left (at.Over why.Hijacked) e live same behind stands =
-      parted V T s over given sent c k r first rest count (subst (λ (x : List ℕ). Stands V T over given sent k (hands_over r first) rest x) (sym e.0.ring_is) stands)
-      (stops_on over (V.says first rest).go_on (same ∙ e.0.stops))
+      parted V T s over given sent c k r first rest count closes (subst (λ (x : List ℕ). Stands V T over given sent k (hands_over r first) rest x) (sym e.0.ring_is) stands)
+      (no_drain (goes_on V first rest over) c.ending.told (stops_on over (V.says first rest).go_on (same ∙ e.0.stops)))
 
   -- it was told the peer's end
   pub told_end : (now : H) (ring left : List ℕ) (b : At B H) → TellsEnd V now b ring → over ≡ true
@@ -139,8 +140,8 @@ module _ {B H : Type 0} (V : Voice H) (T : Teller H) (s : Seen) (over : Bool) (g
   told_end now ring left (at.Taken h) e ended stands = absurd e
   told_end now ring left (at.Speaking h) e ended stands = absurd e
   told_end now ring left at.Parting e ended stands = record {
-    handed = handed V T s over given sent c k r first rest count ring left (subst (λ (x : List ℕ). Stands V T over given sent k (hands_over r first) rest x) (sym e.0) stands);
-    ended = ap (λ (o : Bool). if o then false else (V.says first rest).go_on) ended;
+    handed = handed V T s over given sent c k r first rest count closes ring left (subst (λ (x : List ℕ). Stands V T over given sent k (hands_over r first) rest x) (sym e.0) stands);
+    ended = no_drain (goes_on V first rest over) c.ending.told (ap (λ (o : Bool). if o then false else (V.says first rest).go_on) ended);
   }
   told_end now ring left (at.Over why.Closed) e ended stands = absurd e
   told_end now ring left (at.Over why.PeerEnd) e ended stands = absurd e
@@ -151,49 +152,50 @@ module _ {B H : Type 0} (V : Voice H) (T : Teller H) (s : Seen) (over : Bool) (g
   told_end now ring left (at.Over why.ReadFailed) e ended stands = absurd e
   told_end now ring left (at.Over why.WriteFailed) e ended stands = absurd e
   told_end now ring left (at.Over (why.Halted level)) e ended stands = absurd e
-  told_end now ring left (at.Over why.NoMemory) e ended stands = unspoken V T s over given sent c k r first rest count (V.ends now []) stands
+  told_end now ring left (at.Over why.NoMemory) e ended stands = unspoken V T s over given sent c k r first rest count closes (V.ends now []) stands
   told_end now ring left (at.Over why.Hijacked) e ended stands =
-      parted V T s over given sent c k r first rest count (subst (λ (x : List ℕ). Stands V T over given sent k (hands_over r first) rest x) e.0 stands)
-      (ap (λ (o : Bool). if o then false else (V.says first rest).go_on) ended)
+      parted V T s over given sent c k r first rest count closes (subst (λ (x : List ℕ). Stands V T over given sent k (hands_over r first) rest x) e.0 stands)
+      (no_drain (goes_on V first rest over) c.ending.told (ap (λ (o : Bool). if o then false else (V.says first rest).go_on) ended))
 
 -- a reply was sent whole, and its hijacker was told the bytes held
 pub hands_at : {B H : Type 0} (V : Voice H) (T : Teller H) (s : Seen) (over : Bool) (given sent : List ℕ) (c : Kept) (h : H) (ring left : List ℕ) (b : At B H)
-    → Tells V h c.held b ring left → (k : ℕ) (r : Parts) → (T k r).after ≡ Hijack → (T k r).hijacker ≡ Some h → c.calls ≡ suc k → over ≡ false
+    → Tells V h c.held b ring left → (k : ℕ) (r : Parts) → (T k r).after ≡ Hijack → (T k r).hijacker ≡ Some h → c.calls ≡ suc k
+    → ClosesAt c.ending.closing c.calls ((T k r).after ≡ Hijack) c.held → over ≡ false
     → Stands V T over given sent k (replies r) c.held [] → HoldsAt b V T s over given sent (with_told c ring left)
-hands_at {B} {H} V T s over given sent c h ring left b e k r taken who count live stands =
-    told_at V T s over given sent c k r h c.held count h c.held ring left b e live refl (λ later behind. behind)
+hands_at {B} {H} V T s over given sent c h ring left b e k r taken who count closes live stands =
+    told_at V T s over given sent c k r h c.held count (closes_for c.ending.closing c.calls ((T k r).after ≡ Hijack) ⊤ c.held (λ x. tt) closes) h c.held ring left b e live refl (λ later behind. behind)
     (subst (λ (x : List ℕ). Stands V T over given sent k (hands_over r h) c.held x)
     (ap (λ (o : Bool). tail_of V h c.held o) live ∙ tail_so_far V h c.held)
     (stands_handed V T over given sent c.held r h k stands taken who))
 
 -- safety behind what it was told
-pub told_rest : {B H : Type 0} (V : Voice H) (h : H) (piece ring left : List ℕ) (intake : Intake) (calls : ℕ) (b : At B H)
-    → Tells V h piece b ring left → RestsAt b intake left ring calls
-told_rest {B} {H} V h piece ring left intake calls at.Reading e = absurd e
-told_rest {B} {H} V h piece ring left intake calls at.Asked e = absurd e
-told_rest {B} {H} V h piece ring left intake calls (at.Refused f) e = absurd e
-told_rest {B} {H} V h piece ring left intake calls (at.Answering f) e = absurd e
-told_rest {B} {H} V h piece ring left intake calls (at.Writing keeps) e = absurd e
-told_rest {B} {H} V h piece ring left intake calls (at.Handing now) e = absurd e
-told_rest {B} {H} V h piece ring left intake calls at.Refusing e = absurd e
-told_rest {B} {H} V h piece ring left intake calls (at.Taken now) e = (e.0.left_is, e.1)
-told_rest {B} {H} V h piece ring left intake calls (at.Speaking now) e = (e.0.left_is, e.1)
-told_rest {B} {H} V h piece ring left intake calls at.Parting e = e.1
-told_rest {B} {H} V h piece ring left intake calls (at.Over w) e = tt
+pub told_rest : {B H : Type 0} (V : Voice H) (h : H) (piece ring left : List ℕ) (intake : Intake) (calls : ℕ) (m : Ending) (b : At B H)
+    → Tells V h piece b ring left → RestsAt b intake left ring calls m
+told_rest {B} {H} V h piece ring left intake calls m at.Reading e = absurd e
+told_rest {B} {H} V h piece ring left intake calls m at.Asked e = absurd e
+told_rest {B} {H} V h piece ring left intake calls m (at.Refused f) e = absurd e
+told_rest {B} {H} V h piece ring left intake calls m (at.Answering f) e = absurd e
+told_rest {B} {H} V h piece ring left intake calls m (at.Writing keeps) e = absurd e
+told_rest {B} {H} V h piece ring left intake calls m (at.Handing now) e = absurd e
+told_rest {B} {H} V h piece ring left intake calls m at.Refusing e = absurd e
+told_rest {B} {H} V h piece ring left intake calls m (at.Taken now) e = (e.0.left_is, e.1)
+told_rest {B} {H} V h piece ring left intake calls m (at.Speaking now) e = (e.0.left_is, e.1)
+told_rest {B} {H} V h piece ring left intake calls m at.Parting e = e.1
+told_rest {B} {H} V h piece ring left intake calls m (at.Over w) e = tt
 
-pub end_rest : {B H : Type 0} (V : Voice H) (h : H) (ring left : List ℕ) (intake : Intake) (calls : ℕ) (b : At B H)
-    → TellsEnd V h b ring → RestsAt b intake left ring calls
-end_rest {B} {H} V h ring left intake calls at.Reading e = absurd e
-end_rest {B} {H} V h ring left intake calls at.Asked e = absurd e
-end_rest {B} {H} V h ring left intake calls (at.Refused f) e = absurd e
-end_rest {B} {H} V h ring left intake calls (at.Answering f) e = absurd e
-end_rest {B} {H} V h ring left intake calls (at.Writing keeps) e = absurd e
-end_rest {B} {H} V h ring left intake calls (at.Handing now) e = absurd e
-end_rest {B} {H} V h ring left intake calls at.Refusing e = absurd e
-end_rest {B} {H} V h ring left intake calls (at.Taken now) e = absurd e
-end_rest {B} {H} V h ring left intake calls (at.Speaking now) e = absurd e
-end_rest {B} {H} V h ring left intake calls at.Parting e = e.1
-end_rest {B} {H} V h ring left intake calls (at.Over w) e = tt
+pub end_rest : {B H : Type 0} (V : Voice H) (h : H) (ring left : List ℕ) (intake : Intake) (calls : ℕ) (m : Ending) (b : At B H)
+    → TellsEnd V h b ring → RestsAt b intake left ring calls m
+end_rest {B} {H} V h ring left intake calls m at.Reading e = absurd e
+end_rest {B} {H} V h ring left intake calls m at.Asked e = absurd e
+end_rest {B} {H} V h ring left intake calls m (at.Refused f) e = absurd e
+end_rest {B} {H} V h ring left intake calls m (at.Answering f) e = absurd e
+end_rest {B} {H} V h ring left intake calls m (at.Writing keeps) e = absurd e
+end_rest {B} {H} V h ring left intake calls m (at.Handing now) e = absurd e
+end_rest {B} {H} V h ring left intake calls m at.Refusing e = absurd e
+end_rest {B} {H} V h ring left intake calls m (at.Taken now) e = absurd e
+end_rest {B} {H} V h ring left intake calls m (at.Speaking now) e = absurd e
+end_rest {B} {H} V h ring left intake calls m at.Parting e = e.1
+end_rest {B} {H} V h ring left intake calls m (at.Over w) e = tt
 
 module _ {B H : Type 0} (V : Voice H) (T : Teller H) (old new : Seen) (peer : List ℕ) (c : Kept) (now : H) (one : IsOneRead old new) (none : c.ring ≡ []) where
   -- bytes came, and were told to the hijacker that has the connection
@@ -215,7 +217,7 @@ module _ {B H : Type 0} (V : Voice H) (T : Teller H) (old new : Seen) (peer : Li
         over = h.over;
         shows = shows_given old new peer h.given h.sent h.over piece one given_is over_is h.shows;
         counts = counted ∙ taken_more h.given piece c.taken h.counts;
-        at = told_at V T new h.over (h.given ++ piece) h.sent (with_count c taken) q.k q.request q.first (q.rest ++ piece) q.count now piece ring left b e x.live
+        at = told_at V T new h.over (h.given ++ piece) h.sent (with_count c taken) q.k q.request q.first (q.rest ++ piece) q.count (closes_taken c.ending.closing c.calls q.rest (q.rest ++ piece) q.closes) now piece ring left b e x.live
             (goes_as V q.first now q.rest piece x.behind) (λ later behind. goes_then V q.first now later q.rest piece x.behind behind) behind;
       }
 
@@ -235,27 +237,27 @@ module _ {B H : Type 0} (V : Voice H) (T : Teller H) (old new : Seen) (peer : Li
         over = true;
         shows = shows_over old new peer h.given h.sent h.over one given_is over_is h.shows;
         counts = h.counts;
-        at = told_end V T new true h.given h.sent c q.k q.request q.first q.rest q.count now ring left b e refl
+        at = told_end V T new true h.given h.sent c q.k q.request q.first q.rest q.count q.closes now ring left b e refl
             (subst (λ (l : List ℕ). Stands V T true h.given h.sent q.k (hands_over q.request q.first) q.rest l) last
             (stands_over V T h.given h.sent q.k q.request q.first q.rest [] before x.goes));
       }
 
   -- nothing came yet
-  pub hears_nothing : (d : Kept) → d.intake ≡ c.intake → d.held ≡ c.held → d.ring ≡ c.ring → d.calls ≡ c.calls → d.taken ≡ c.taken → new.given ≡ old.given
-      → new.over ≡ old.over → StandsAt {B = B} V T old peer (at.Taken now) c → StandsAt {B = B} V T new peer (at.Taken now) d
-  hears_nothing d i l r n t given_is over_is h = record {
+  pub hears_nothing : (d : Kept) → d.intake ≡ c.intake → d.held ≡ c.held → d.ring ≡ c.ring → d.calls ≡ c.calls → d.taken ≡ c.taken → d.ending ≡ c.ending
+      → new.given ≡ old.given → new.over ≡ old.over → StandsAt {B = B} V T old peer (at.Taken now) c → StandsAt {B = B} V T new peer (at.Taken now) d
+  hears_nothing d i l r n t m given_is over_is h = record {
     given = h.given;
     sent = h.sent;
     over = h.over;
     shows = shows_unread old new peer h.given h.sent h.over one given_is over_is h.shows;
     counts = t ∙ h.counts;
-    at = subst (λ (x : Kept). HoldsAt {B = B} (at.Taken now) V T new h.over h.given h.sent x) (kept_same c d i l r n t) h.at;
+    at = subst (λ (x : Kept). HoldsAt {B = B} (at.Taken now) V T new h.over h.given h.sent x) (kept_same c d i l r n t m) h.at;
   }
 
   -- the read failed
-  pub hears_failure : (d : Kept) → d.calls ≡ c.calls → d.taken ≡ c.taken → new.given ≡ old.given → new.over ≡ old.over → Rose old.failed_reads new.failed_reads
+  pub hears_failure : (d : Kept) → d.calls ≡ c.calls → d.taken ≡ c.taken → d.ending ≡ c.ending → new.given ≡ old.given → new.over ≡ old.over → Rose old.failed_reads new.failed_reads
       → StandsAt {B = B} V T old peer (at.Taken now) c → StandsAt {B = B} V T new peer (at.Over why.ReadFailed) d
-  hears_failure d n t given_is over_is rose h =
+  hears_failure d n t m given_is over_is rose h =
       let x : Hears V T h.over h.given h.sent c now = h.at in
       let q : Handed V T h.over h.given h.sent c = x.handed in
       let one_more : c.calls ≡ q.k + 1 = omega (arith, q.count) in
@@ -265,12 +267,12 @@ module _ {B H : Type 0} (V : Voice H) (T : Teller H) (old new : Seen) (peer : Li
         over = h.over;
         shows = shows_unread old new peer h.given h.sent h.over one given_is over_is h.shows;
         counts = t ∙ h.counts;
-        at = subst (λ (m : ℕ). EndsPlainly why.ReadFailed V T (past new m h.given h.sent h.over)) (sym n) (
+        at = over_same why.ReadFailed V T new h.over h.given h.sent c d n m (
           rose_some old.failed_reads new.failed_reads rose,
           inr (record {
             word = hands_over q.request q.first;
             lacks = c.ring;
-            partly = record { k = q.k; rest = q.rest; calls_is = one_more; stands = q.stands; closes = tt };
+            partly = record { k = q.k; rest = q.rest; calls_is = one_more; stands = q.stands; closes = q.closes };
             taken = tt;
           }),
         );
@@ -308,88 +310,88 @@ module _ {B H : Type 0} (V : Voice H) (T : Teller H) (old new : Seen) (peer : Li
   end_at (at.Over w) b ring left is given_is over_is e h = absurd is
 
   pub nothing_at : (a : At B H) (d : Kept) → IsHearing a → d.intake ≡ c.intake → d.held ≡ c.held → d.ring ≡ c.ring → d.calls ≡ c.calls → d.taken ≡ c.taken
-      → new.given ≡ old.given → new.over ≡ old.over → StandsAt V T old peer a c → StandsAt V T new peer a d
-  nothing_at at.Reading d is i l r n t given_is over_is h = absurd is
-  nothing_at at.Asked d is i l r n t given_is over_is h = absurd is
-  nothing_at (at.Refused f) d is i l r n t given_is over_is h = absurd is
-  nothing_at (at.Answering f) d is i l r n t given_is over_is h = absurd is
-  nothing_at (at.Writing keeps) d is i l r n t given_is over_is h = absurd is
-  nothing_at (at.Handing now) d is i l r n t given_is over_is h = absurd is
-  nothing_at at.Refusing d is i l r n t given_is over_is h = absurd is
-  nothing_at (at.Taken now) d is i l r n t given_is over_is h = hears_nothing {B = B} V T old new peer c now one none d i l r n t given_is over_is h
-  nothing_at (at.Speaking now) d is i l r n t given_is over_is h = absurd is
-  nothing_at at.Parting d is i l r n t given_is over_is h = absurd is
-  nothing_at (at.Over w) d is i l r n t given_is over_is h = absurd is
+      → d.ending ≡ c.ending → new.given ≡ old.given → new.over ≡ old.over → StandsAt V T old peer a c → StandsAt V T new peer a d
+  nothing_at at.Reading d is i l r n t m given_is over_is h = absurd is
+  nothing_at at.Asked d is i l r n t m given_is over_is h = absurd is
+  nothing_at (at.Refused f) d is i l r n t m given_is over_is h = absurd is
+  nothing_at (at.Answering f) d is i l r n t m given_is over_is h = absurd is
+  nothing_at (at.Writing keeps) d is i l r n t m given_is over_is h = absurd is
+  nothing_at (at.Handing now) d is i l r n t m given_is over_is h = absurd is
+  nothing_at at.Refusing d is i l r n t m given_is over_is h = absurd is
+  nothing_at (at.Taken now) d is i l r n t m given_is over_is h = hears_nothing {B = B} V T old new peer c now one none d i l r n t m given_is over_is h
+  nothing_at (at.Speaking now) d is i l r n t m given_is over_is h = absurd is
+  nothing_at at.Parting d is i l r n t m given_is over_is h = absurd is
+  nothing_at (at.Over w) d is i l r n t m given_is over_is h = absurd is
 
-  pub failure_at : (a : At B H) (d : Kept) → IsHearing a → d.calls ≡ c.calls → d.taken ≡ c.taken → new.given ≡ old.given → new.over ≡ old.over
+  pub failure_at : (a : At B H) (d : Kept) → IsHearing a → d.calls ≡ c.calls → d.taken ≡ c.taken → d.ending ≡ c.ending → new.given ≡ old.given → new.over ≡ old.over
       → Rose old.failed_reads new.failed_reads → StandsAt V T old peer a c → StandsAt {B = B} V T new peer (at.Over why.ReadFailed) d
-  failure_at at.Reading d is n t given_is over_is rose h = absurd is
-  failure_at at.Asked d is n t given_is over_is rose h = absurd is
-  failure_at (at.Refused f) d is n t given_is over_is rose h = absurd is
-  failure_at (at.Answering f) d is n t given_is over_is rose h = absurd is
-  failure_at (at.Writing keeps) d is n t given_is over_is rose h = absurd is
-  failure_at (at.Handing now) d is n t given_is over_is rose h = absurd is
-  failure_at at.Refusing d is n t given_is over_is rose h = absurd is
-  failure_at (at.Taken now) d is n t given_is over_is rose h = hears_failure {B = B} V T old new peer c now one none d n t given_is over_is rose h
-  failure_at (at.Speaking now) d is n t given_is over_is rose h = absurd is
-  failure_at at.Parting d is n t given_is over_is rose h = absurd is
-  failure_at (at.Over w) d is n t given_is over_is rose h = absurd is
+  failure_at at.Reading d is n t m given_is over_is rose h = absurd is
+  failure_at at.Asked d is n t m given_is over_is rose h = absurd is
+  failure_at (at.Refused f) d is n t m given_is over_is rose h = absurd is
+  failure_at (at.Answering f) d is n t m given_is over_is rose h = absurd is
+  failure_at (at.Writing keeps) d is n t m given_is over_is rose h = absurd is
+  failure_at (at.Handing now) d is n t m given_is over_is rose h = absurd is
+  failure_at at.Refusing d is n t m given_is over_is rose h = absurd is
+  failure_at (at.Taken now) d is n t m given_is over_is rose h = hears_failure {B = B} V T old new peer c now one none d n t m given_is over_is rose h
+  failure_at (at.Speaking now) d is n t m given_is over_is rose h = absurd is
+  failure_at at.Parting d is n t m given_is over_is rose h = absurd is
+  failure_at (at.Over w) d is n t m given_is over_is rose h = absurd is
 
 -- where a hijacker has the connection nothing is owed and nothing held
-pub hearing_rests : {B H : Type 0} (a : At B H) (intake : Intake) (held ring : List ℕ) (calls : ℕ) → IsHearing a → RestsAt a intake held ring calls
+pub hearing_rests : {B H : Type 0} (a : At B H) (intake : Intake) (held ring : List ℕ) (calls : ℕ) (m : Ending) → IsHearing a → RestsAt a intake held ring calls m
     → (held ≡ []) × (ring ≡ [])
-hearing_rests {B} {H} at.Reading intake held ring calls is h = absurd is
-hearing_rests {B} {H} at.Asked intake held ring calls is h = absurd is
-hearing_rests {B} {H} (at.Refused f) intake held ring calls is h = absurd is
-hearing_rests {B} {H} (at.Answering f) intake held ring calls is h = absurd is
-hearing_rests {B} {H} (at.Writing keeps) intake held ring calls is h = absurd is
-hearing_rests {B} {H} (at.Handing now) intake held ring calls is h = absurd is
-hearing_rests {B} {H} at.Refusing intake held ring calls is h = absurd is
-hearing_rests {B} {H} (at.Taken now) intake held ring calls is h = h
-hearing_rests {B} {H} (at.Speaking now) intake held ring calls is h = absurd is
-hearing_rests {B} {H} at.Parting intake held ring calls is h = absurd is
-hearing_rests {B} {H} (at.Over w) intake held ring calls is h = absurd is
+hearing_rests {B} {H} at.Reading intake held ring calls m is h = absurd is
+hearing_rests {B} {H} at.Asked intake held ring calls m is h = absurd is
+hearing_rests {B} {H} (at.Refused f) intake held ring calls m is h = absurd is
+hearing_rests {B} {H} (at.Answering f) intake held ring calls m is h = absurd is
+hearing_rests {B} {H} (at.Writing keeps) intake held ring calls m is h = absurd is
+hearing_rests {B} {H} (at.Handing now) intake held ring calls m is h = absurd is
+hearing_rests {B} {H} at.Refusing intake held ring calls m is h = absurd is
+hearing_rests {B} {H} (at.Taken now) intake held ring calls m is h = h
+hearing_rests {B} {H} (at.Speaking now) intake held ring calls m is h = absurd is
+hearing_rests {B} {H} at.Parting intake held ring calls m is h = absurd is
+hearing_rests {B} {H} (at.Over w) intake held ring calls m is h = absurd is
 
 -- safety behind what was told at such a place
-pub heard_rest : {B H : Type 0} (V : Voice H) (a b : At B H) (piece before ring left : List ℕ) (intake : Intake) (calls : ℕ) → IsHearing a
-    → HandsOn V a piece before b ring left → RestsAt b intake left ring calls
-heard_rest {B} {H} V at.Reading b piece before ring left intake calls is e = absurd is
-heard_rest {B} {H} V at.Asked b piece before ring left intake calls is e = absurd is
-heard_rest {B} {H} V (at.Refused f) b piece before ring left intake calls is e = absurd is
-heard_rest {B} {H} V (at.Answering f) b piece before ring left intake calls is e = absurd is
-heard_rest {B} {H} V (at.Writing keeps) b piece before ring left intake calls is e = absurd is
-heard_rest {B} {H} V (at.Handing now) b piece before ring left intake calls is e = absurd is
-heard_rest {B} {H} V at.Refusing b piece before ring left intake calls is e = absurd is
-heard_rest {B} {H} V (at.Taken now) b piece before ring left intake calls is e = told_rest V now piece ring left intake calls b e
-heard_rest {B} {H} V (at.Speaking now) b piece before ring left intake calls is e = absurd is
-heard_rest {B} {H} V at.Parting b piece before ring left intake calls is e = absurd is
-heard_rest {B} {H} V (at.Over w) b piece before ring left intake calls is e = absurd is
+pub heard_rest : {B H : Type 0} (V : Voice H) (a b : At B H) (piece before ring left : List ℕ) (intake : Intake) (calls : ℕ) (m : Ending) → IsHearing a
+    → HandsOn V a piece before b ring left → RestsAt b intake left ring calls m
+heard_rest {B} {H} V at.Reading b piece before ring left intake calls m is e = absurd is
+heard_rest {B} {H} V at.Asked b piece before ring left intake calls m is e = absurd is
+heard_rest {B} {H} V (at.Refused f) b piece before ring left intake calls m is e = absurd is
+heard_rest {B} {H} V (at.Answering f) b piece before ring left intake calls m is e = absurd is
+heard_rest {B} {H} V (at.Writing keeps) b piece before ring left intake calls m is e = absurd is
+heard_rest {B} {H} V (at.Handing now) b piece before ring left intake calls m is e = absurd is
+heard_rest {B} {H} V at.Refusing b piece before ring left intake calls m is e = absurd is
+heard_rest {B} {H} V (at.Taken now) b piece before ring left intake calls m is e = told_rest V now piece ring left intake calls m b e
+heard_rest {B} {H} V (at.Speaking now) b piece before ring left intake calls m is e = absurd is
+heard_rest {B} {H} V at.Parting b piece before ring left intake calls m is e = absurd is
+heard_rest {B} {H} V (at.Over w) b piece before ring left intake calls m is e = absurd is
 
-pub heard_end_rest : {B H : Type 0} (V : Voice H) (a b : At B H) (ring left : List ℕ) (intake : Intake) (calls : ℕ) → IsHearing a
-    → EndsOn V a b ring → RestsAt b intake left ring calls
-heard_end_rest {B} {H} V at.Reading b ring left intake calls is e = absurd is
-heard_end_rest {B} {H} V at.Asked b ring left intake calls is e = absurd is
-heard_end_rest {B} {H} V (at.Refused f) b ring left intake calls is e = absurd is
-heard_end_rest {B} {H} V (at.Answering f) b ring left intake calls is e = absurd is
-heard_end_rest {B} {H} V (at.Writing keeps) b ring left intake calls is e = absurd is
-heard_end_rest {B} {H} V (at.Handing now) b ring left intake calls is e = absurd is
-heard_end_rest {B} {H} V at.Refusing b ring left intake calls is e = absurd is
-heard_end_rest {B} {H} V (at.Taken now) b ring left intake calls is e = end_rest V now ring left intake calls b e
-heard_end_rest {B} {H} V (at.Speaking now) b ring left intake calls is e = absurd is
-heard_end_rest {B} {H} V at.Parting b ring left intake calls is e = absurd is
-heard_end_rest {B} {H} V (at.Over w) b ring left intake calls is e = absurd is
+pub heard_end_rest : {B H : Type 0} (V : Voice H) (a b : At B H) (ring left : List ℕ) (intake : Intake) (calls : ℕ) (m : Ending) → IsHearing a
+    → EndsOn V a b ring → RestsAt b intake left ring calls m
+heard_end_rest {B} {H} V at.Reading b ring left intake calls m is e = absurd is
+heard_end_rest {B} {H} V at.Asked b ring left intake calls m is e = absurd is
+heard_end_rest {B} {H} V (at.Refused f) b ring left intake calls m is e = absurd is
+heard_end_rest {B} {H} V (at.Answering f) b ring left intake calls m is e = absurd is
+heard_end_rest {B} {H} V (at.Writing keeps) b ring left intake calls m is e = absurd is
+heard_end_rest {B} {H} V (at.Handing now) b ring left intake calls m is e = absurd is
+heard_end_rest {B} {H} V at.Refusing b ring left intake calls m is e = absurd is
+heard_end_rest {B} {H} V (at.Taken now) b ring left intake calls m is e = end_rest V now ring left intake calls m b e
+heard_end_rest {B} {H} V (at.Speaking now) b ring left intake calls m is e = absurd is
+heard_end_rest {B} {H} V at.Parting b ring left intake calls m is e = absurd is
+heard_end_rest {B} {H} V (at.Over w) b ring left intake calls m is e = absurd is
 
 -- safety where nothing came
-pub nothing_rest : {B H : Type 0} (a : At B H) (intake : Intake) (held left ring : List ℕ) (calls : ℕ) → IsHearing a → left ≡ []
-    → RestsAt a intake held ring calls → RestsAt a intake left ring calls
-nothing_rest {B} {H} at.Reading intake held left ring calls is e h = absurd is
-nothing_rest {B} {H} at.Asked intake held left ring calls is e h = absurd is
-nothing_rest {B} {H} (at.Refused f) intake held left ring calls is e h = absurd is
-nothing_rest {B} {H} (at.Answering f) intake held left ring calls is e h = absurd is
-nothing_rest {B} {H} (at.Writing keeps) intake held left ring calls is e h = absurd is
-nothing_rest {B} {H} (at.Handing now) intake held left ring calls is e h = absurd is
-nothing_rest {B} {H} at.Refusing intake held left ring calls is e h = absurd is
-nothing_rest {B} {H} (at.Taken now) intake held left ring calls is e h = (e, h.1)
-nothing_rest {B} {H} (at.Speaking now) intake held left ring calls is e h = absurd is
-nothing_rest {B} {H} at.Parting intake held left ring calls is e h = absurd is
-nothing_rest {B} {H} (at.Over w) intake held left ring calls is e h = absurd is
+pub nothing_rest : {B H : Type 0} (a : At B H) (intake : Intake) (held left ring : List ℕ) (calls : ℕ) (m : Ending) → IsHearing a → left ≡ []
+    → RestsAt a intake held ring calls m → RestsAt a intake left ring calls m
+nothing_rest {B} {H} at.Reading intake held left ring calls m is e h = absurd is
+nothing_rest {B} {H} at.Asked intake held left ring calls m is e h = absurd is
+nothing_rest {B} {H} (at.Refused f) intake held left ring calls m is e h = absurd is
+nothing_rest {B} {H} (at.Answering f) intake held left ring calls m is e h = absurd is
+nothing_rest {B} {H} (at.Writing keeps) intake held left ring calls m is e h = absurd is
+nothing_rest {B} {H} (at.Handing now) intake held left ring calls m is e h = absurd is
+nothing_rest {B} {H} at.Refusing intake held left ring calls m is e h = absurd is
+nothing_rest {B} {H} (at.Taken now) intake held left ring calls m is e h = (e, h.1)
+nothing_rest {B} {H} (at.Speaking now) intake held left ring calls m is e h = absurd is
+nothing_rest {B} {H} at.Parting intake held left ring calls m is e h = absurd is
+nothing_rest {B} {H} (at.Over w) intake held left ring calls m is e h = absurd is

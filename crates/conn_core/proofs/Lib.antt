@@ -11,6 +11,7 @@ pub mod FilledLemmas
 pub mod CompleteLemmas
 pub mod ShownLemmas
 pub mod MovedLemmas
+pub mod KeepsLemmas
 pub mod MoveLemmas
 pub mod MovingLemmas
 pub mod ToldLemmas

@@ -1,5 +1,5 @@
 -- What each read and each write of a connection is, as a move, and lists of moves.
-use Rattle.std.proofs.Common.{◌≡◌, ◌≢◌, ◌↔◌, ℕ, ◌+◌, ◌-◌, ◌<◌, ◌≤◌, Bool, true, false, IsTrue, List, [], ◌∷◌, ◌++◌, length, take, drop, refl, sym, ap, subst, ◌∙◌, arith, length-append, None, ◌⊎◌, inl, inr}
+use Rattle.std.proofs.Common.{◌≡◌, ◌≢◌, ◌↔◌, ℕ, ◌+◌, ◌-◌, ◌<◌, ◌≤◌, Bool, true, false, IsTrue, List, [], ◌∷◌, ◌++◌, length, take, drop, refl, sym, ap, subst, ◌∙◌, arith, length-append, Option, None, Some, ◌⊎◌, inl, inr}
 use Rattle.std.proofs.Math.Seq.{take-append_seam}
 use Rattle.std.proofs.lemmas.List.{take_all, drop-append-le}
 use Rattle.rack_types.specs.declared.body.Body.{Ghosts}
@@ -12,102 +12,108 @@ use Rattle.talk_core.specs.declared.ended.Life.{Life}
 use Rattle.talk_core.specs.declared.ended.Why.TheVariants as why
 use Rattle.talk_core.specs.Tail.{Voice}
 use Rattle.conn_core.specs.declared.inside.Inside.{Inside}
+use Rattle.conn_core.specs.declared.moments.Ending.{Ending}
+use Rattle.conn_core.specs.declared.moments.Late.{Late}
+use Rattle.conn_core.specs.declared.moments.Moments.{Moments}
 use Rattle.conn_core.specs.declared.place.At.{At}
 use Rattle.conn_core.specs.declared.place.At.TheVariants as at
 use Rattle.conn_core.specs.declared.state.State.TheVariants as state
 use Rattle.conn_core.specs.Calls.{MayFeed}
 use Rattle.conn_core.specs.Inner.{IsFilledAt}
 use Rattle.conn_core.specs.Moves.{ring_room, FedTo, ToldTo, KeptTo, BehindWrite, OwesAs, OwesRightly, Move, Moment, Makes, Goes, IsOwing}
+use Rattle.conn_core.specs.Moments.{ended_by}
 use Rattle.conn_core.specs.Place.{IsSaying, IsHearing, MayRead, state_at}
 use Rattle.conn_core.specs.Rests.{RestsAt}
 use Rattle.conn_core.specs.Shown.{Shown, shows, replied_at, owed_at, why_at, fault_at, after_at, sure_at}
 use Rattle.conn_core.specs.Steps.{FeedsHeld, Tells, CompletesTo}
 use Rattle.conn_core.proofs.FilledLemmas.{shown_at}
+use Rattle.conn_core.proofs.PlaceLemmas.{absent}
 use Rattle.conn_core.proofs.SaidLemmas.{filled_ring, filled_owes}
 
 -- moves, and more moves
-pub goes_then : (xs ys : List Move) (m k n : Moment) → Goes xs m k → Goes ys k n → Goes (xs ++ ys) m n
-goes_then [] ys m k n h i = subst (λ (j : Moment). Goes ys j n) h i
-goes_then (x ∷ xs) ys m k n h i = (h.0, h.1, h.2, goes_then xs ys h.0 k n h.3 i)
+pub goes_then : (now : ℕ) (xs ys : List Move) (m k n : Moment) → Goes now xs m k → Goes now ys k n → Goes now (xs ++ ys) m n
+goes_then now [] ys m k n h i = subst (λ (j : Moment). Goes now ys j n) h i
+goes_then now (x ∷ xs) ys m k n h i = (h.0, h.1, h.2, goes_then now xs ys h.0 k n h.3 i)
 
 -- and one more
-pub goes_on : (xs : List Move) (x : Move) (m k n : Moment) → Goes xs m k → Makes x k n → OwesRightly n.shown → Goes (xs ++ x ∷ []) m n
-goes_on xs x m k n h makes owes = goes_then xs (x ∷ []) m k n h (n, makes, owes, refl)
+pub goes_on : (now : ℕ) (xs : List Move) (x : Move) (m k n : Moment) → Goes now xs m k → Makes now x k n → OwesRightly n.shown
+    → Goes now (xs ++ x ∷ []) m n
+goes_on now xs x m k n h makes owes = goes_then now xs (x ∷ []) m k n h (n, makes, owes, refl)
 
 pub some_not : (xs : List ℕ) → 0 < length xs → xs ≢ []
 some_not xs some none = absurd (omega (arith, some, ap (λ (x : List ℕ). length x) none))
 
 -- what is owed and held where a connection rests
 rests_owe : {B H : Type 0} (a : At B H) (intake : Intake) (held ring : List ℕ) (calls : ℕ) (peer : List ℕ) (local : Local) (lives : List Life)
-    (taken : ℕ) → RestsAt a intake held ring calls → OwesAs (state_at a) (shown_at a ring held peer local lives calls taken)
-rests_owe {B} {H} at.Reading intake held ring calls peer local lives taken r = (r.1.0, r.0)
-rests_owe {B} {H} at.Asked intake held ring calls peer local lives taken r = r.0
-rests_owe {B} {H} (at.Refused f) intake held ring calls peer local lives taken r = r.0
-rests_owe {B} {H} (at.Answering f) intake held ring calls peer local lives taken r =
+    (taken : ℕ) (e : Ending) (t : Moments) → RestsAt a intake held ring calls e → OwesAs (state_at a) (shown_at a ring held peer local lives calls taken e t)
+rests_owe {B} {H} at.Reading intake held ring calls peer local lives taken e t r = (r.1.0, r.0)
+rests_owe {B} {H} at.Asked intake held ring calls peer local lives taken e t r = r.0
+rests_owe {B} {H} (at.Refused f) intake held ring calls peer local lives taken e t r = r.0
+rests_owe {B} {H} (at.Answering f) intake held ring calls peer local lives taken e t r =
     some_not (ring ++ f.rest.bytes) (omega (arith, r.0, length-append ring f.rest.bytes))
-rests_owe {B} {H} (at.Writing keeps) intake held ring calls peer local lives taken r = some_not ring r.0
-rests_owe {B} {H} (at.Handing h) intake held ring calls peer local lives taken r = some_not ring r.0
-rests_owe {B} {H} at.Refusing intake held ring calls peer local lives taken r = some_not ring r
-rests_owe {B} {H} (at.Taken h) intake held ring calls peer local lives taken r = (λ e. cc, λ keeps. r.0, λ closes. cc)
-rests_owe {B} {H} (at.Speaking h) intake held ring calls peer local lives taken r = (λ e. cc, λ keeps. r.0, λ closes. cc)
-rests_owe {B} {H} at.Parting intake held ring calls peer local lives taken r = (λ e. cc, λ keeps. cc, λ closes. some_not ring r)
-rests_owe {B} {H} (at.Over w) intake held ring calls peer local lives taken r = refl
+rests_owe {B} {H} (at.Writing keeps) intake held ring calls peer local lives taken e t r = some_not ring r.0
+rests_owe {B} {H} (at.Handing h) intake held ring calls peer local lives taken e t r = some_not ring r.0
+rests_owe {B} {H} at.Refusing intake held ring calls peer local lives taken e t r = some_not ring r
+rests_owe {B} {H} (at.Taken h) intake held ring calls peer local lives taken e t r = (λ e. cc, λ keeps. r.0, λ closes. cc)
+rests_owe {B} {H} (at.Speaking h) intake held ring calls peer local lives taken e t r = (λ e. cc, λ keeps. r.0, λ closes. cc)
+rests_owe {B} {H} at.Parting intake held ring calls peer local lives taken e t r = (λ e. cc, λ keeps. cc, λ closes. some_not ring r)
+rests_owe {B} {H} (at.Over w) intake held ring calls peer local lives taken e t r = refl
 
 pub owes_rightly : {B H : Type 0} {g : Ghosts B} (p : Inside B H g) → OwesRightly (shows p)
-owes_rightly {B} {H} {g} p = rests_owe p.at p.intake p.held p.ring.items p.calls p.peer p.local p.lives.items p.taken p.rests
+owes_rightly {B} {H} {g} p = rests_owe p.at p.intake p.held p.ring.items p.calls p.peer p.local p.lives.items p.taken p.ending p.moments p.rests
 
 -- bytes are owed at a place where some are said, and only there
-saying_at : {B H : Type 0} (a : At B H) (intake : Intake) (held ring : List ℕ) (calls : ℕ) → RestsAt a intake held ring calls
+saying_at : {B H : Type 0} (a : At B H) (intake : Intake) (held ring : List ℕ) (calls : ℕ) (m : Ending) → RestsAt a intake held ring calls m
     → IsSaying a → (state_at a ≡ state.Answering) ⊎ ((state_at a ≡ state.Hijacked) × (owed_at a ring ≢ []))
-saying_at {B} {H} at.Reading intake held ring calls r is = absurd is
-saying_at {B} {H} at.Asked intake held ring calls r is = absurd is
-saying_at {B} {H} (at.Refused f) intake held ring calls r is = absurd is
-saying_at {B} {H} (at.Answering f) intake held ring calls r is = inl refl
-saying_at {B} {H} (at.Writing keeps) intake held ring calls r is = inl refl
-saying_at {B} {H} (at.Handing h) intake held ring calls r is = inl refl
-saying_at {B} {H} at.Refusing intake held ring calls r is = inl refl
-saying_at {B} {H} (at.Taken h) intake held ring calls r is = absurd is
-saying_at {B} {H} (at.Speaking h) intake held ring calls r is = inr (refl, some_not ring r.1)
-saying_at {B} {H} at.Parting intake held ring calls r is = inr (refl, some_not ring r)
-saying_at {B} {H} (at.Over w) intake held ring calls r is = absurd is
+saying_at {B} {H} at.Reading intake held ring calls m r is = absurd is
+saying_at {B} {H} at.Asked intake held ring calls m r is = absurd is
+saying_at {B} {H} (at.Refused f) intake held ring calls m r is = absurd is
+saying_at {B} {H} (at.Answering f) intake held ring calls m r is = inl refl
+saying_at {B} {H} (at.Writing keeps) intake held ring calls m r is = inl refl
+saying_at {B} {H} (at.Handing h) intake held ring calls m r is = inl refl
+saying_at {B} {H} at.Refusing intake held ring calls m r is = inl refl
+saying_at {B} {H} (at.Taken h) intake held ring calls m r is = absurd is
+saying_at {B} {H} (at.Speaking h) intake held ring calls m r is = inr (refl, some_not ring r.1)
+saying_at {B} {H} at.Parting intake held ring calls m r is = inr (refl, some_not ring r)
+saying_at {B} {H} (at.Over w) intake held ring calls m r is = absurd is
 
-owing_at : {B H : Type 0} (a : At B H) (intake : Intake) (held ring : List ℕ) (calls : ℕ) → RestsAt a intake held ring calls
+owing_at : {B H : Type 0} (a : At B H) (intake : Intake) (held ring : List ℕ) (calls : ℕ) (m : Ending) → RestsAt a intake held ring calls m
     → (state_at a ≡ state.Answering) ⊎ ((state_at a ≡ state.Hijacked) × (owed_at a ring ≢ [])) → IsSaying a
-owing_at {B} {H} at.Reading intake held ring calls r e = elim e [ inl x ↦ cc | inr x ↦ cc ]
-owing_at {B} {H} at.Asked intake held ring calls r e = elim e [ inl x ↦ cc | inr x ↦ cc ]
-owing_at {B} {H} (at.Refused f) intake held ring calls r e = elim e [ inl x ↦ cc | inr x ↦ cc ]
-owing_at {B} {H} (at.Answering f) intake held ring calls r e = tt
-owing_at {B} {H} (at.Writing keeps) intake held ring calls r e = tt
-owing_at {B} {H} (at.Handing h) intake held ring calls r e = tt
-owing_at {B} {H} at.Refusing intake held ring calls r e = tt
-owing_at {B} {H} (at.Taken h) intake held ring calls r e = elim e [ inl x ↦ cc | inr x ↦ absurd (x.1 r.1) ]
-owing_at {B} {H} (at.Speaking h) intake held ring calls r e = tt
-owing_at {B} {H} at.Parting intake held ring calls r e = tt
-owing_at {B} {H} (at.Over w) intake held ring calls r e = elim e [ inl x ↦ cc | inr x ↦ cc ]
+owing_at {B} {H} at.Reading intake held ring calls m r e = elim e [ inl x ↦ cc | inr x ↦ cc ]
+owing_at {B} {H} at.Asked intake held ring calls m r e = elim e [ inl x ↦ cc | inr x ↦ cc ]
+owing_at {B} {H} (at.Refused f) intake held ring calls m r e = elim e [ inl x ↦ cc | inr x ↦ cc ]
+owing_at {B} {H} (at.Answering f) intake held ring calls m r e = tt
+owing_at {B} {H} (at.Writing keeps) intake held ring calls m r e = tt
+owing_at {B} {H} (at.Handing h) intake held ring calls m r e = tt
+owing_at {B} {H} at.Refusing intake held ring calls m r e = tt
+owing_at {B} {H} (at.Taken h) intake held ring calls m r e = elim e [ inl x ↦ cc | inr x ↦ absurd (x.1 r.1) ]
+owing_at {B} {H} (at.Speaking h) intake held ring calls m r e = tt
+owing_at {B} {H} at.Parting intake held ring calls m r e = tt
+owing_at {B} {H} (at.Over w) intake held ring calls m r e = elim e [ inl x ↦ cc | inr x ↦ cc ]
 
 pub saying_owing : {B H : Type 0} {g : Ghosts B} (p : Inside B H g) → IsSaying p.at → IsOwing (shows p)
-saying_owing {B} {H} {g} p is = saying_at p.at p.intake p.held p.ring.items p.calls p.rests is
+saying_owing {B} {H} {g} p is = saying_at p.at p.intake p.held p.ring.items p.calls p.ending p.rests is
 
 pub owing_saying : {B H : Type 0} {g : Ghosts B} (p : Inside B H g) → IsOwing (shows p) → IsSaying p.at
-owing_saying {B} {H} {g} p is = owing_at p.at p.intake p.held p.ring.items p.calls p.rests is
+owing_saying {B} {H} {g} p is = owing_at p.at p.intake p.held p.ring.items p.calls p.ending p.rests is
 
 pub unsaying : {B H : Type 0} {g : Ghosts B} (p : Inside B H g) (b : Bool) → (IsTrue b ↔ IsSaying p.at) → b ≡ false → ¬ (IsOwing (shows p))
 unsaying {B} {H} {g} p b is not owing = let t : b ≡ true = is.1 (owing_saying p owing) in cc
 
 -- a hijacker has the connection, and nothing is owed
-hearing_at : {B H : Type 0} (a : At B H) (intake : Intake) (held ring : List ℕ) (calls : ℕ) → RestsAt a intake held ring calls
+hearing_at : {B H : Type 0} (a : At B H) (intake : Intake) (held ring : List ℕ) (calls : ℕ) (m : Ending) → RestsAt a intake held ring calls m
     → IsHearing a → (state_at a ≡ state.Hijacked) × (owed_at a ring ≡ [])
-hearing_at {B} {H} at.Reading intake held ring calls r is = absurd is
-hearing_at {B} {H} at.Asked intake held ring calls r is = absurd is
-hearing_at {B} {H} (at.Refused f) intake held ring calls r is = absurd is
-hearing_at {B} {H} (at.Answering f) intake held ring calls r is = absurd is
-hearing_at {B} {H} (at.Writing keeps) intake held ring calls r is = absurd is
-hearing_at {B} {H} (at.Handing h) intake held ring calls r is = absurd is
-hearing_at {B} {H} at.Refusing intake held ring calls r is = absurd is
-hearing_at {B} {H} (at.Taken h) intake held ring calls r is = (refl, r.1)
-hearing_at {B} {H} (at.Speaking h) intake held ring calls r is = absurd is
-hearing_at {B} {H} at.Parting intake held ring calls r is = absurd is
-hearing_at {B} {H} (at.Over w) intake held ring calls r is = absurd is
+hearing_at {B} {H} at.Reading intake held ring calls m r is = absurd is
+hearing_at {B} {H} at.Asked intake held ring calls m r is = absurd is
+hearing_at {B} {H} (at.Refused f) intake held ring calls m r is = absurd is
+hearing_at {B} {H} (at.Answering f) intake held ring calls m r is = absurd is
+hearing_at {B} {H} (at.Writing keeps) intake held ring calls m r is = absurd is
+hearing_at {B} {H} (at.Handing h) intake held ring calls m r is = absurd is
+hearing_at {B} {H} at.Refusing intake held ring calls m r is = absurd is
+hearing_at {B} {H} (at.Taken h) intake held ring calls m r is = (refl, r.1)
+hearing_at {B} {H} (at.Speaking h) intake held ring calls m r is = absurd is
+hearing_at {B} {H} at.Parting intake held ring calls m r is = absurd is
+hearing_at {B} {H} (at.Over w) intake held ring calls m r is = absurd is
 
 silent_at : {B H : Type 0} (a : At B H) → state_at a ≡ state.Hijacked → ¬ (IsSaying a) → IsHearing a
 silent_at {B} {H} at.Reading e not = cc
@@ -124,7 +130,7 @@ silent_at {B} {H} (at.Over w) e not = cc
 
 pub hearing_owes : {B H : Type 0} {g : Ghosts B} (p : Inside B H g) → IsHearing p.at
     → ((shows p).state ≡ state.Hijacked) × ((shows p).owed ≡ [])
-hearing_owes {B} {H} {g} p is = hearing_at p.at p.intake p.held p.ring.items p.calls p.rests is
+hearing_owes {B} {H} {g} p is = hearing_at p.at p.intake p.held p.ring.items p.calls p.ending p.rests is
 
 pub silent_hears : {B H : Type 0} (a : At B H) (b : Bool) → state_at a ≡ state.Hijacked → (IsTrue b ↔ IsSaying a) → b ≡ false → IsHearing a
 silent_hears {B} {H} a b held is not = silent_at a held (λ says. let t : b ≡ true = is.1 says in cc)
@@ -143,22 +149,22 @@ reading_place {B} {H} at.Parting e = cc
 reading_place {B} {H} (at.Over w) e = cc
 
 -- a read may be made
-may_read_at : {B H : Type 0} (a : At B H) (intake : Intake) (held ring : List ℕ) (calls : ℕ) → RestsAt a intake held ring calls
+may_read_at : {B H : Type 0} (a : At B H) (intake : Intake) (held ring : List ℕ) (calls : ℕ) (m : Ending) → RestsAt a intake held ring calls m
     → (state_at a ≡ state.Reading) ⊎ ((state_at a ≡ state.Hijacked) × (owed_at a ring ≡ [])) → MayRead a
-may_read_at {B} {H} at.Reading intake held ring calls r e = inl refl
-may_read_at {B} {H} at.Asked intake held ring calls r e = elim e [ inl x ↦ cc | inr x ↦ cc ]
-may_read_at {B} {H} (at.Refused f) intake held ring calls r e = elim e [ inl x ↦ cc | inr x ↦ cc ]
-may_read_at {B} {H} (at.Answering f) intake held ring calls r e = elim e [ inl x ↦ cc | inr x ↦ cc ]
-may_read_at {B} {H} (at.Writing keeps) intake held ring calls r e = elim e [ inl x ↦ cc | inr x ↦ cc ]
-may_read_at {B} {H} (at.Handing h) intake held ring calls r e = elim e [ inl x ↦ cc | inr x ↦ cc ]
-may_read_at {B} {H} at.Refusing intake held ring calls r e = elim e [ inl x ↦ cc | inr x ↦ cc ]
-may_read_at {B} {H} (at.Taken h) intake held ring calls r e = inr tt
-may_read_at {B} {H} (at.Speaking h) intake held ring calls r e = elim e [ inl x ↦ cc | inr x ↦ absurd (some_not ring r.1 x.1) ]
-may_read_at {B} {H} at.Parting intake held ring calls r e = elim e [ inl x ↦ cc | inr x ↦ absurd (some_not ring r x.1) ]
-may_read_at {B} {H} (at.Over w) intake held ring calls r e = elim e [ inl x ↦ cc | inr x ↦ cc ]
+may_read_at {B} {H} at.Reading intake held ring calls m r e = inl refl
+may_read_at {B} {H} at.Asked intake held ring calls m r e = elim e [ inl x ↦ cc | inr x ↦ cc ]
+may_read_at {B} {H} (at.Refused f) intake held ring calls m r e = elim e [ inl x ↦ cc | inr x ↦ cc ]
+may_read_at {B} {H} (at.Answering f) intake held ring calls m r e = elim e [ inl x ↦ cc | inr x ↦ cc ]
+may_read_at {B} {H} (at.Writing keeps) intake held ring calls m r e = elim e [ inl x ↦ cc | inr x ↦ cc ]
+may_read_at {B} {H} (at.Handing h) intake held ring calls m r e = elim e [ inl x ↦ cc | inr x ↦ cc ]
+may_read_at {B} {H} at.Refusing intake held ring calls m r e = elim e [ inl x ↦ cc | inr x ↦ cc ]
+may_read_at {B} {H} (at.Taken h) intake held ring calls m r e = inr tt
+may_read_at {B} {H} (at.Speaking h) intake held ring calls m r e = elim e [ inl x ↦ cc | inr x ↦ absurd (some_not ring r.1 x.1) ]
+may_read_at {B} {H} at.Parting intake held ring calls m r e = elim e [ inl x ↦ cc | inr x ↦ absurd (some_not ring r x.1) ]
+may_read_at {B} {H} (at.Over w) intake held ring calls m r e = elim e [ inl x ↦ cc | inr x ↦ cc ]
 
 pub may_read : {B H : Type 0} {g : Ghosts B} (p : Inside B H g) → MayFeed (shows p) → MayRead p.at
-may_read {B} {H} {g} p may = may_read_at p.at p.intake p.held p.ring.items p.calls p.rests may
+may_read {B} {H} {g} p may = may_read_at p.at p.intake p.held p.ring.items p.calls p.ending p.rests may
 
 -- the connection is read, or a hijacker has it
 pub may_state : {B H : Type 0} (a : At B H) → MayRead a → state_at a ≢ state.Reading → IsHearing a
@@ -190,9 +196,9 @@ fed_to {B} {H} (at.Over why.NoMemory) old new held left f = refl
 fed_to {B} {H} (at.Over why.Hijacked) old new held left f = absurd f
 
 -- nothing is owed where more is to be read
-reading_ring : {B H : Type 0} (a : At B H) (intake : Intake) (held ring : List ℕ) (calls : ℕ) → a ≡ at.Reading → RestsAt a intake held ring calls
+pub reading_ring : {B H : Type 0} (a : At B H) (intake : Intake) (held ring : List ℕ) (calls : ℕ) (m : Ending) → a ≡ at.Reading → RestsAt a intake held ring calls m
     → ring ≡ []
-reading_ring {B} {H} a intake held ring calls e h = (subst (λ (b : At B H). RestsAt b intake held ring calls) e h).1.0
+reading_ring {B} {H} a intake held ring calls m e h = (subst (λ (b : At B H). RestsAt b intake held ring calls m) e h).1.0
 
 owed_fed : {B H : Type 0} (a : At B H) (ring : List ℕ) → FedTo (state_at a) (why_at a) → ring ≡ [] → owed_at a ring ≡ ring
 owed_fed {B} {H} at.Reading ring f e = refl
@@ -208,10 +214,10 @@ owed_fed {B} {H} at.Parting ring f e = absurd f
 owed_fed {B} {H} (at.Over w) ring f e = sym e
 
 -- and behind bytes that were fed
-pub unowed_fed : {B H : Type 0} (a b : At B H) (intake : Intake) (held ring : List ℕ) (calls : ℕ) → a ≡ at.Reading → RestsAt a intake held ring calls
+pub unowed_fed : {B H : Type 0} (a b : At B H) (intake : Intake) (held ring : List ℕ) (calls : ℕ) (m : Ending) → a ≡ at.Reading → RestsAt a intake held ring calls m
     → FedTo (state_at b) (why_at b) → owed_at b ring ≡ owed_at a ring
-unowed_fed {B} {H} a b intake held ring calls e h f =
-    owed_fed b ring f (reading_ring a intake held ring calls e h) ∙ sym (ap (λ (d : At B H). owed_at d ring) e)
+unowed_fed {B} {H} a b intake held ring calls m e h f =
+    owed_fed b ring f (reading_ring a intake held ring calls m e h) ∙ sym (ap (λ (d : At B H). owed_at d ring) e)
 
 -- the ring is the front of what is owed, as much as it holds
 pub fills_front : {B H : Type 0} (a : At B H) (ring : List ℕ) → IsFilledAt a ring → length ring ≤ ring_room → ring ≡ take ring_room (owed_at a ring)
@@ -327,11 +333,11 @@ filled_sure {B} {H} (at.Speaking h) ring is e = refl
 filled_sure {B} {H} at.Parting ring is e = refl
 filled_sure {B} {H} (at.Over w) ring is e = refl
 
-module _ {B H : Type 0} (peer : List ℕ) (local : Local) (lives : List Life) (calls taken : ℕ) where
+module _ {B H : Type 0} (peer : List ℕ) (local : Local) (lives : List Life) (calls taken : ℕ) (m : Ending) (t u : Moments) where
   -- the link took some of the ring, and not all
   pub took_some : (a : At B H) (before after held : List ℕ) (n : ℕ) → IsFilledAt a before → after ≡ drop n before → n ≤ length before
       → 0 < length after
-      → BehindWrite (write.Took n) (shown_at a before held peer local lives calls taken) (shown_at a after held peer local lives calls taken)
+      → BehindWrite (write.Took n) (shown_at a before held peer local lives calls taken m t) (shown_at a after held peer local lives calls taken m u)
   took_some a before after held n is off few some =
       let left = owed_left a before after n is off few in
       inl (record {
@@ -347,7 +353,7 @@ module _ {B H : Type 0} (peer : List ℕ) (local : Local) (lives : List Life) (c
 
   -- it had to wait
   pub took_none : (a : At B H) (before after held : List ℕ) → IsFilledAt a before → after ≡ before
-      → BehindWrite write.NotYet (shown_at a before held peer local lives calls taken) (shown_at a after held peer local lives calls taken)
+      → BehindWrite write.NotYet (shown_at a before held peer local lives calls taken m t) (shown_at a after held peer local lives calls taken m u)
   took_none a before after held is off = record {
     some = some_not (owed_at a before) (filled_owes a before before is (filled_ring a before is));
     owed = ap (λ (z : List ℕ). owed_at a z) off;
@@ -362,8 +368,8 @@ module _ {B H : Type 0} (peer : List ℕ) (local : Local) (lives : List Life) (c
   -- the bytes held were fed behind a reply
   kept_fed : (b : At B H) (before ring held left : List ℕ) (fresh new : Intake) → Fed fresh [] → FeedsHeld fresh held new left b → ring ≡ []
       → 0 < calls
-      → KeptTo (state_at b) (why_at b) (shown_at {B = B} {H = H} (at.Writing true) before held peer local lives calls taken)
-      (shown_at b ring left peer local lives calls taken)
+      → KeptTo (state_at b) (why_at b) (shown_at {B = B} {H = H} (at.Writing true) before held peer local lives calls taken m t)
+      (shown_at b ring left peer local lives calls taken m u)
   kept_fed at.Reading before ring held left fresh new empty f none some = (refl, one_more calls some, none)
   kept_fed at.Asked before ring held left fresh new empty f none some = (refl, one_more calls some, none)
   kept_fed (at.Refused fault) before ring held left fresh new empty f none some = (refl, one_more calls some, none)
@@ -388,8 +394,8 @@ module _ {B H : Type 0} (peer : List ℕ) (local : Local) (lives : List Life) (c
 
   -- the link took all of it
   pub took_all : (V : Voice H) (a b : At B H) (before ring held left : List ℕ) (n : ℕ) (old new : Intake)
-      → CompletesTo V a old held b new left ring → IsFilledAt a before → RestsAt a old held before calls → [] ≡ drop n before → n ≤ length before
-      → BehindWrite (write.Took n) (shown_at a before held peer local lives calls taken) (shown_at b ring left peer local lives calls taken)
+      → CompletesTo m.late V a old held b new left ring → IsFilledAt a before → RestsAt a old held before calls m → [] ≡ drop n before → n ≤ length before
+      → BehindWrite (write.Took n) (shown_at a before held peer local lives calls taken m t) (shown_at b ring left peer local lives calls taken m u)
   took_all V at.Reading b before ring held left n old new e is rests off few = absurd is
   took_all V at.Asked b before ring held left n old new e is rests off few = absurd is
   took_all V (at.Refused f) b before ring held left n old new e is rests off few = absurd is
@@ -408,7 +414,13 @@ module _ {B H : Type 0} (peer : List ℕ) (local : Local) (lives : List Life) (c
   took_all V (at.Writing true) b before ring held left n old new e is rests off few =
       inr (sym off, kept_fed b before ring held left e.0 new e.1 e.2 e.3 rests.1.1.0)
   took_all V (at.Writing false) b before ring held left n old new e is rests off few =
-      inr (sym off, (ap (λ (d : At B H). state_at d) e.0, ap (λ (d : At B H). why_at d) e.0))
+      inr (
+        sym off,
+        (
+          ap (λ (d : At B H). state_at d) e.0,
+          ap (λ (d : At B H). why_at d) e.0 ∙ ap (λ (o : Option Late). Some (ended_by o)) (sym (absent m.late rests.1)),
+        ),
+      )
   took_all V (at.Handing h) b before ring held left n old new e is rests off few =
       inr (sym off, (told_to V h b held ring left e, λ taken. told_count V h b held ring left calls e ∙ one_more calls rests.1))
   took_all V at.Refusing b before ring held left n old new e is rests off few =
@@ -429,9 +441,9 @@ module _ {B H : Type 0} (peer : List ℕ) (local : Local) (lives : List Life) (c
   took_all V (at.Over w) b before ring held left n old new e is rests off few = absurd is
 
 -- nothing is in the ring where a refusal stands
-pub refused_ring : {B H : Type 0} (a : At B H) (fault : Fault) (intake : Intake) (held ring : List ℕ) (calls : ℕ) → a ≡ at.Refused fault
-    → RestsAt a intake held ring calls → ring ≡ []
-refused_ring {B} {H} a fault intake held ring calls e h = (subst (λ (b : At B H). RestsAt b intake held ring calls) e h).0
+pub refused_ring : {B H : Type 0} (a : At B H) (fault : Fault) (intake : Intake) (held ring : List ℕ) (calls : ℕ) (m : Ending) → a ≡ at.Refused fault
+    → RestsAt a intake held ring calls m → ring ≡ []
+refused_ring {B} {H} a fault intake held ring calls m e h = (subst (λ (b : At B H). RestsAt b intake held ring calls m) e h).0
 
 -- none stands where a request does
 pub unrefused : {B H : Type 0} (a : At B H) → state_at a ≡ state.Ready → ((fault : Fault) → a ≡ at.Refused fault → ⊥) → fault_at a ≡ None
@@ -453,4 +465,4 @@ held_same o held e = ap (λ (x : List ℕ). record o { held = x }) e
 
 -- no byte is held where requests are read
 pub reading_held : {B H : Type 0} {g : Ghosts B} (p : Inside B H g) → p.at ≡ at.Reading → p.held ≡ []
-reading_held {B} {H} {g} p e = (subst (λ (a : At B H). RestsAt a p.intake p.held p.ring.items p.calls) e p.rests).0
+reading_held {B} {H} {g} p e = (subst (λ (a : At B H). RestsAt a p.intake p.held p.ring.items p.calls p.ending) e p.rests).0

@@ -1,5 +1,7 @@
 -- What several parts of a call leave, one behind the other.
-use Rattle.std.proofs.Common.{◌≡◌, ℕ, ◌+◌, ◌≤◌, List, [], ◌++◌, length, length-append, append_assoc, refl, sym, ap, subst, ◌∙◌, arith, Option, None, Some}
+use Rattle.std.proofs.Common.{◌≡◌, ℕ, ◌+◌, ◌<◌, ◌≤◌, Bool, true, false, List, [], ◌++◌, length, length-append, append_assoc, refl, sym, ap, subst, ◌∙◌, arith, Option, None, Some, ◌⊎◌, inl, inr}
+use Rattle.std.proofs.lemmas.Bool.Decides.{nat_tests}
+use Rattle.std.specs.Prelude.{nat_lt, ◌&&◌, if◌then◌else◌}
 use Rattle.rack_outside.specs.Link.{Seen, marked}
 use Rattle.rack_outside.specs.Told.{appended}
 use Rattle.rack_outside.proofs.CallerLemmas.{rose_within}
@@ -7,7 +9,10 @@ use Rattle.talk_core.specs.Counts.{counted_by}
 use Rattle.talk_core.specs.declared.ended.Why.{Why}
 use Rattle.talk_core.specs.declared.ended.Why.TheVariants as why
 use Rattle.talk_core.proofs.CallerLemmas.{counted_more}
+use Rattle.conn_core.specs.declared.moments.Ending.{Ending}
+use Rattle.conn_core.specs.declared.moments.Late.{Late}
 use Rattle.conn_core.specs.Calls.{TurnEnds}
+use Rattle.conn_core.specs.Keeps.{Drains, DrainsOnce, ending_run, no_bytes}
 use Rattle.conn_core.specs.Moves.{SameShown}
 use Rattle.conn_core.specs.Shown.{Shown, Moved}
 use Rattle.conn_core.proofs.ShownLemmas.{appended_nil}
@@ -91,27 +96,86 @@ moved_then o m n s t u a b c d x y e f h k =
     }
 
 -- what ended a connection since some moment, where nothing had ended it before
-pub ends_since : (w : Option Why) (first s u : Seen) → first.failed_reads ≤ s.failed_reads → first.failed_writes ≤ s.failed_writes
-    → s.over ≡ first.over → TurnEnds w s u → TurnEnds w first u
-ends_since None first s u reads writes over h = h ∙ over
-ends_since (Some why.Closed) first s u reads writes over h = h ∙ over
-ends_since (Some why.PeerEnd) first s u reads writes over h = h ∙ ap marked over
-ends_since (Some (why.Idle by)) first s u reads writes over h = absurd h
-ends_since (Some (why.TimedOut since now)) first s u reads writes over h = absurd h
-ends_since (Some (why.Stalled since now)) first s u reads writes over h = absurd h
-ends_since (Some (why.Unread level)) first s u reads writes over h = absurd h
-ends_since (Some why.ReadFailed) first s u reads writes over h =
+pub ends_since : (late : Option Late) (w : Option Why) (first s u : Seen) → first.failed_reads ≤ s.failed_reads → first.failed_writes ≤ s.failed_writes
+    → s.over ≡ first.over → TurnEnds late w s u → TurnEnds late w first u
+ends_since late None first s u reads writes over h = h ∙ over
+ends_since late (Some why.Closed) first s u reads writes over h = h ∙ over
+ends_since late (Some why.PeerEnd) first s u reads writes over h = h ∙ ap marked over
+ends_since late (Some (why.Idle by)) first s u reads writes over h = absurd h
+ends_since late (Some (why.TimedOut since now)) first s u reads writes over h = (h.0, h.1 ∙ over)
+ends_since late (Some (why.Stalled since now)) first s u reads writes over h = absurd h
+ends_since late (Some (why.Unread level)) first s u reads writes over h = absurd h
+ends_since late (Some why.ReadFailed) first s u reads writes over h =
     let last : u.failed_reads ≤ u.failed_reads = omega arith in
     (h.0 ∙ over, rose_within first.failed_reads s.failed_reads u.failed_reads u.failed_reads reads h.1 last)
-ends_since (Some why.WriteFailed) first s u reads writes over h =
+ends_since late (Some why.WriteFailed) first s u reads writes over h =
     let last : u.failed_writes ≤ u.failed_writes = omega arith in
     (h.0 ∙ over, rose_within first.failed_writes s.failed_writes u.failed_writes u.failed_writes writes h.1 last)
-ends_since (Some (why.Halted level)) first s u reads writes over h = absurd h
-ends_since (Some why.NoMemory) first s u reads writes over h = h ∙ over
-ends_since (Some why.Hijacked) first s u reads writes over h = h ∙ over
+ends_since late (Some (why.Halted level)) first s u reads writes over h = absurd h
+ends_since late (Some why.NoMemory) first s u reads writes over h = h ∙ over
+ends_since late (Some why.Hijacked) first s u reads writes over h = h ∙ over
 
 -- the same, where that nothing had ended it is told by its why
-pub ends_then : (before w : Option Why) (first s u : Seen) → before ≡ None → first.failed_reads ≤ s.failed_reads → first.failed_writes ≤ s.failed_writes
-    → TurnEnds w s u → TurnEnds before first s → TurnEnds w first u
-ends_then before w first s u none reads writes h k =
-    ends_since w first s u reads writes (subst (λ (b : Option Why). TurnEnds b first s) none k) h
+pub ends_then : (late : Option Late) (before w : Option Why) (first s u : Seen) → before ≡ None → first.failed_reads ≤ s.failed_reads → first.failed_writes ≤ s.failed_writes
+    → TurnEnds late w s u → TurnEnds late before first s → TurnEnds late w first u
+ends_then late before w first s u none reads writes h k =
+    ends_since late w first s u reads writes (subst (λ (b : Option Why). TurnEnds late b first s) none k) h
+
+-- what was told of the end behind several moves, and behind more
+pub drains_same : (o n : Shown) → n.ending ≡ o.ending → Drains o n
+drains_same o n e = record {
+  told = ap (λ (x : Ending). x.told) e;
+  late = ap (λ (x : Ending). x.late) e;
+  closing = inl (ap (λ (x : Ending). x.closing) e);
+}
+
+pub drains_then : (o m n : Shown) → m.calls ≤ n.calls → o.calls ≤ m.calls → Drains o m → Drains m n → Drains o n
+drains_then o m n more few h k = record {
+  told = k.told ∙ h.told;
+  late = k.late ∙ h.late;
+  closing = elim h.closing [
+    | inl same ↦ elim k.closing [
+      | inl again ↦ inl (again ∙ same)
+      | inr once ↦ inr (
+        once.0,
+        subst (λ (t : ℕ). 1 ≤ t) h.told once.1,
+        sym same ∙ once.2,
+        once.3,
+        (let first : o.calls ≤ once.0 = omega (arith, few, once.4) in first),
+        once.5,
+      )
+    ]
+    | inr once ↦ elim k.closing [
+      | inl again ↦ inr (
+        once.0,
+        once.1,
+        once.2,
+        again ∙ once.3,
+        once.4,
+        (let last : once.0 < n.calls = omega (arith, more, once.5) in last),
+      )
+      | inr twice ↦ absurd (some_none once.0 (sym once.3 ∙ twice.2))
+    ]
+  ];
+}
+  where
+    some_none : (k : ℕ) → Some k ≡ None → ⊥
+    some_none k e = cc
+
+-- one run
+pub drains_run : (o n : Shown) → n.calls ≡ o.calls + 1 → n.ending ≡ ending_run o.ending o.held o.calls → o.ending.closing ≡ None → Drains o n
+drains_run o n one is none = record {
+  told = ap (λ (x : Ending). x.told) is;
+  late = ap (λ (x : Ending). x.late) is;
+  closing = go (nat_lt 0 o.ending.told) (no_bytes o.held) refl (ap (λ (x : Ending). x.closing) is);
+}
+  where
+    go : (b d : Bool) → nat_lt 0 o.ending.told ≡ b → n.ending.closing ≡ (if b && d then Some o.calls else o.ending.closing)
+        → (n.ending.closing ≡ o.ending.closing) ⊎ DrainsOnce o n
+    go false d e c = inl c
+    go true false e c = inl c
+    go true true e c =
+        let some : 1 ≤ o.ending.told = grind (arith, nat_tests, e) in
+        let first : o.calls ≤ o.calls = omega arith in
+        let last : o.calls < n.calls = omega (arith, one) in
+        inr (o.calls, some, none, c, first, last)

@@ -13,6 +13,7 @@ use Rattle.conn_core.specs.declared.state.State.TheVariants as state
 use Rattle.conn_core.specs.Inner.{IsSpentLeft, TakesUp, SaysOnce, left_at, MadeTo, StepMoves}
 use Rattle.conn_core.specs.Moves.{read_waits, ReadsOnce, write_waits, WritesOnce, OwesRightly, Move, Moment, IsOpen, MayWrite, Spends, Goes, turn_at, StopsIn, TurnStops, flush_at, FlushStops, IsOwing}
 use Rattle.conn_core.specs.Moves.{Run, Refusal, Want, Read, Write}
+use Rattle.conn_core.specs.Keeps.{Keeps}
 use Rattle.conn_core.specs.Shown.{Shown}
 use Rattle.conn_core.proofs.MoveLemmas.{goes_on}
 
@@ -37,14 +38,14 @@ takes o n s l m k by is few =
     let writes : l.writes ≡ m.writes + 0 = omega (arith, same_writes) in
     record { runs_are = runs; reads_are = reads; writes_are = writes; waits_is = refl }
 
-pub takes_makes : (o n : Shown) (s : Seen) (l m : Left) → TakesUp (l.runs - m.runs) o n → m ≡ record l { runs = m.runs } → m.runs ≤ l.runs
-    → o.state ≡ state.Ready → IsOpen (left_at o s l false) → OwesRightly n → MadeTo (left_at o s l false) (left_at n s m false)
-takes_makes o n s l m up is few ready may owes =
+pub takes_makes : (now : ℕ) (o n : Shown) (s : Seen) (l m : Left) → TakesUp now (l.runs - m.runs) o n → m ≡ record l { runs = m.runs } → m.runs ≤ l.runs
+    → o.state ≡ state.Ready → IsOpen (left_at o s l false) → OwesRightly n → MadeTo now (left_at o s l false) (left_at n s m false)
+takes_makes now o n s l m up is few ready may owes =
     elim up [
-      | inl run ↦ (Run, (ready, run.1, may, takes o n s l m 1 run.0 is few, refl, run.2), owes)
+      | inl run ↦ (Run, ((ready, run.1, may, takes o n s l m 1 run.0 is few, refl, run.2), run.3), owes)
       | inr none ↦ elim none.1 [
-        | inl names ↦ (Refusal names.0, (ready, names.1, may, takes o n s l m 0 none.0 is few, refl, names.2), owes)
-        | inr wants ↦ (Want, (inl (ready, wants.0, may), takes o n s l m 0 none.0 is few, refl, wants.1), owes)
+        | inl names ↦ (Refusal names.0, ((ready, names.1, may, takes o n s l m 0 none.0 is few, refl, names.2), names.3), owes)
+        | inr wants ↦ (Want, ((inl (ready, wants.0, may), takes o n s l m 0 none.0 is few, refl, wants.1), wants.2), owes)
       ]
     ]
 
@@ -55,32 +56,32 @@ ended_read read.NotYet e = elim e [ inl x ↦ cc | inr x ↦ cc ]
 ended_read read.End e = refl
 ended_read read.Failed e = refl
 
-pub read_makes : (a : LinkRead) (o n : Shown) (s u : Seen) (l : Left) (came : ℕ) (w : Bool) → read_waits a ≡ w → ReadsOnce a o n s u
+pub read_makes : (now : ℕ) (a : LinkRead) (o n : Shown) (s u : Seen) (l : Left) (came : ℕ) (w : Bool) → read_waits a ≡ w → ReadsOnce a o n s u → Keeps now (Read a) o n
     → o.state ≡ state.Reading → (0 < l.runs) × (0 < l.reads) × (0 < l.writes) → OwesRightly n
-    → MadeTo (left_at o s l false) (left_at n u (record { runs = l.runs; reads = l.reads - 1; writes = l.writes; came = came }) w)
-read_makes a o n s u l came w waits once reading some owes =
+    → MadeTo now (left_at o s l false) (left_at n u (record { runs = l.runs; reads = l.reads - 1; writes = l.writes; came = came }) w)
+read_makes now a o n s u l came w waits once keeps reading some owes =
     let runs : l.runs ≡ l.runs + 0 = omega arith in
     let reads : l.reads ≡ (l.reads - 1) + 1 = omega (arith, some.1) in
     let writes : l.writes ≡ l.writes + 0 = omega arith in
-    (Read a, (reading, is_open o s l some, record { runs_are = runs; reads_are = reads; writes_are = writes; waits_is = sym waits }, once), owes)
+    (Read a, ((reading, is_open o s l some, record { runs_are = runs; reads_are = reads; writes_are = writes; waits_is = sym waits }, once), keeps), owes)
 
 -- memory was refused before a write
-pub want_makes : (o n : Shown) (s u : Seen) (l : Left) → SaysOnce said.Unwritten o n s u → MayWrite (left_at o s l false) → OwesRightly n
-    → MadeTo (left_at o s l false) (left_at n u l false)
-want_makes o n s u l h may owes =
+pub want_makes : (now : ℕ) (o n : Shown) (s u : Seen) (l : Left) → SaysOnce now said.Unwritten o n s u → MayWrite (left_at o s l false) → OwesRightly n
+    → MadeTo now (left_at o s l false) (left_at n u l false)
+want_makes now o n s u l h may owes =
     let runs : l.runs ≡ l.runs + 0 = omega arith in
     let reads : l.reads ≡ l.reads + 0 = omega arith in
     let writes : l.writes ≡ l.writes + 0 = omega arith in
-    (Want, (inr (h.1, h.2, may), record { runs_are = runs; reads_are = reads; writes_are = writes; waits_is = refl }, h.0, h.3), owes)
+    (Want, ((inr (h.1, h.2, may), record { runs_are = runs; reads_are = reads; writes_are = writes; waits_is = refl }, h.0, h.3), h.4), owes)
 
-pub write_makes : (a : LinkWrite) (o n : Shown) (s u : Seen) (l : Left) (w : Bool) → write_waits a ≡ w → WritesOnce a o n s u
+pub write_makes : (now : ℕ) (a : LinkWrite) (o n : Shown) (s u : Seen) (l : Left) (w : Bool) → write_waits a ≡ w → WritesOnce a o n s u → Keeps now (Write a) o n
     → IsOwing o → MayWrite (left_at o s l false) → OwesRightly n
-    → MadeTo (left_at o s l false) (left_at n u (record { runs = l.runs; reads = l.reads; writes = l.writes - 1; came = l.came }) w)
-write_makes a o n s u l w waits once owing may owes =
+    → MadeTo now (left_at o s l false) (left_at n u (record { runs = l.runs; reads = l.reads; writes = l.writes - 1; came = l.came }) w)
+write_makes now a o n s u l w waits once keeps owing may owes =
     let runs : l.runs ≡ l.runs + 0 = omega arith in
     let reads : l.reads ≡ l.reads + 0 = omega arith in
     let writes : l.writes ≡ (l.writes - 1) + 1 = omega (arith, may.writes) in
-    (Write a, (owing, may, record { runs_are = runs; reads_are = reads; writes_are = writes; waits_is = sym waits }, once), owes)
+    (Write a, ((owing, may, record { runs_are = runs; reads_are = reads; writes_are = writes; waits_is = sym waits }, once), keeps), owes)
 
 -- why a turn stops, by what is left
 pub over_stops : (n : Shown) (s : Seen) (l : Left) → n.state ≡ state.Over → TurnStops (left_at n s l false)
@@ -106,15 +107,15 @@ unwritten_stops n s l owing none =
     ]
 
 -- the moves so far
-pub record Moving (first now : Moment) : Type 0 where
+pub record Moving (now : ℕ) (first last : Moment) : Type 0 where
   pub moves : List Move
-  pub made : Goes moves first now
+  pub made : Goes now moves first last
 
-pub moving_none : (m : Moment) → Moving m m
-moving_none m = record { moves = []; made = refl }
+pub moving_none : (now : ℕ) (m : Moment) → Moving now m m
+moving_none now m = record { moves = []; made = refl }
 
-pub moving_step : (first m n : Moment) → Moving first m → MadeTo m n → Moving first n
-moving_step first m n h k = record { moves = h.moves ++ k.0 ∷ []; made = goes_on h.moves k.0 first m n h.made k.1 k.2 }
+pub moving_step : (now : ℕ) (first m n : Moment) → Moving now first m → MadeTo now m n → Moving now first n
+moving_step now first m n h k = record { moves = h.moves ++ k.0 ∷ []; made = goes_on now h.moves k.0 first m n h.made k.1 k.2 }
 
 -- what a turn may do
 abbrev pub full : Left
@@ -127,19 +128,19 @@ full_open o s =
     record { runs = ten; reads = many; writes = many; unwaited = refl }
 
 -- the first move of a turn
-pub moving_start : (o n : Shown) (s : Seen) (f l : Left) → f ≡ full → TakesUp (f.runs - l.runs) o n → l ≡ record f { runs = l.runs } → l.runs ≤ f.runs
-    → o.state ≡ state.Ready → OwesRightly n → Moving (left_at o s full false) (left_at n s l false)
-moving_start o n s f l all up is few ready owes =
-    let made : MadeTo (left_at o s f false) (left_at n s l false) =
-    takes_makes o n s f l up is few ready (subst (λ (x : Left). IsOpen (left_at o s x false)) (sym all) (full_open o s)) owes in
-    moving_step (left_at o s full false) (left_at o s full false) (left_at n s l false) (moving_none (left_at o s full false))
-    (subst (λ (x : Left). MadeTo (left_at o s x false) (left_at n s l false)) all made)
+pub moving_start : (now : ℕ) (o n : Shown) (s : Seen) (f l : Left) → f ≡ full → TakesUp now (f.runs - l.runs) o n → l ≡ record f { runs = l.runs } → l.runs ≤ f.runs
+    → o.state ≡ state.Ready → OwesRightly n → Moving now (left_at o s full false) (left_at n s l false)
+moving_start now o n s f l all up is few ready owes =
+    let made : MadeTo now (left_at o s f false) (left_at n s l false) =
+    takes_makes now o n s f l up is few ready (subst (λ (x : Left). IsOpen (left_at o s x false)) (sym all) (full_open o s)) owes in
+    moving_step now (left_at o s full false) (left_at o s full false) (left_at n s l false) (moving_none now (left_at o s full false))
+    (subst (λ (x : Left). MadeTo now (left_at o s x false) (left_at n s l false)) all made)
 
 -- all moves of a turn
-pub record TurnMade (o n : Shown) (s u : Seen) (runs reads writes : ℕ) : Type 0 where
+pub record TurnMade (now : ℕ) (o n : Shown) (s u : Seen) (runs reads writes : ℕ) : Type 0 where
   pub moves : List Move
   pub waited : Bool
-  pub made : Goes moves (turn_at o s 0 0 0 false) (turn_at n u runs reads writes waited)
+  pub made : Goes now moves (turn_at o s 0 0 0 false) (turn_at n u runs reads writes waited)
   pub stops : TurnStops (turn_at n u runs reads writes waited)
 
 -- what is left, by what was made
@@ -153,34 +154,34 @@ turn_moment n u l w few =
     ∙ ap (λ (x : ℕ). record { shown = n; seen = u; runs = 10 - (10 - l.runs); reads = x; writes = l.writes; waited = w }) reads
     ∙ ap (λ (x : ℕ). record { shown = n; seen = u; runs = 10 - (10 - l.runs); reads = 160 - (160 - l.reads); writes = x; waited = w }) writes
 
-turn_made : (o n : Shown) (s u : Seen) (l : Left) (w : Bool) → (l.runs ≤ 10) × (l.reads ≤ 160) × (l.writes ≤ 160)
-    → Moving (left_at o s full false) (left_at n u l w) → TurnStops (left_at n u l w) → TurnMade o n s u (10 - l.runs) (160 - l.reads) (160 - l.writes)
-turn_made o n s u l w few h stops =
+turn_made : (now : ℕ) (o n : Shown) (s u : Seen) (l : Left) (w : Bool) → (l.runs ≤ 10) × (l.reads ≤ 160) × (l.writes ≤ 160)
+    → Moving now (left_at o s full false) (left_at n u l w) → TurnStops (left_at n u l w) → TurnMade now o n s u (10 - l.runs) (160 - l.reads) (160 - l.writes)
+turn_made now o n s u l w few h stops =
     let is = turn_moment n u l w few in
     record {
       moves = h.moves;
       waited = w;
-      made = subst (λ (m : Moment). Goes h.moves (left_at o s full false) m) is h.made;
+      made = subst (λ (m : Moment). Goes now h.moves (left_at o s full false) m) is h.made;
       stops = subst TurnStops is stops;
     }
 
 -- its last step
-pub moving_end : (r : Step) (o m n : Shown) (s t u : Seen) (l k : Left) → (r ≡ step.Waits) ⊎ (r ≡ step.Stops)
-    → (k.runs ≤ 10) × (k.reads ≤ 160) × (k.writes ≤ 160) → Moving (left_at o s full false) (left_at m t l false) → StepMoves r m n t u l k
-    → TurnMade o n s u (10 - k.runs) (160 - k.reads) (160 - k.writes)
-moving_end step.GoesOn o m n s t u l k e few h p = elim e [ inl x ↦ cc | inr x ↦ cc ]
-moving_end step.Waits o m n s t u l k e few h p =
-    turn_made o n s u k true few (moving_step (left_at o s full false) (left_at m t l false) (left_at n u k true) h p) (inl refl)
-moving_end step.Stops o m n s t u l k e few h p =
+pub moving_end : (now : ℕ) (r : Step) (o m n : Shown) (s t u : Seen) (l k : Left) → (r ≡ step.Waits) ⊎ (r ≡ step.Stops)
+    → (k.runs ≤ 10) × (k.reads ≤ 160) × (k.writes ≤ 160) → Moving now (left_at o s full false) (left_at m t l false) → StepMoves now r m n t u l k
+    → TurnMade now o n s u (10 - k.runs) (160 - k.reads) (160 - k.writes)
+moving_end now step.GoesOn o m n s t u l k e few h p = elim e [ inl x ↦ cc | inr x ↦ cc ]
+moving_end now step.Waits o m n s t u l k e few h p =
+    turn_made now o n s u k true few (moving_step now (left_at o s full false) (left_at m t l false) (left_at n u k true) h p) (inl refl)
+moving_end now step.Stops o m n s t u l k e few h p =
     let same : left_at m t l false ≡ left_at n u k false =
     ap (λ (x : Shown). left_at x t l false) (sym p.0) ∙ ap (λ (x : Seen). left_at n x l false) (sym p.1) ∙ ap (λ (x : Left). left_at n u x false) (sym p.2) in
-    turn_made o n s u k false few (subst (λ (x : Moment). Moving (left_at o s full false) x) same h) p.3
+    turn_made now o n s u k false few (subst (λ (x : Moment). Moving now (left_at o s full false) x) same h) p.3
 
 -- all moves of a flush
-pub record FlushMade (o n : Shown) (s u : Seen) (writes : ℕ) : Type 0 where
+pub record FlushMade (now : ℕ) (o n : Shown) (s u : Seen) (writes : ℕ) : Type 0 where
   pub moves : List Move
   pub waited : Bool
-  pub made : Goes moves (flush_at o s 0 false) (flush_at n u writes waited)
+  pub made : Goes now moves (flush_at o s 0 false) (flush_at n u writes waited)
   pub stops : FlushStops (flush_at n u writes waited)
 
 flush_may : (o : Shown) (s : Seen) (x : ℕ) → x < 16 → MayWrite (flush_at o s x false)
@@ -190,24 +191,24 @@ flush_may o s x few =
     record { reads = one; writes = some; unwaited = refl }
 
 -- one write of a flush
-pub flush_moving_step : (a : LinkWrite) (first : Moment) (m n : Shown) (t u : Seen) (x : ℕ) (w : Bool) → write_waits a ≡ w → WritesOnce a m n t u
-    → IsOwing m → x < 16 → OwesRightly n → Moving first (flush_at m t x false) → Moving first (flush_at n u (x + 1) w)
-flush_moving_step a first m n t u x w waits once owing few owes h =
+pub flush_moving_step : (now : ℕ) (a : LinkWrite) (first : Moment) (m n : Shown) (t u : Seen) (x : ℕ) (w : Bool) → write_waits a ≡ w → WritesOnce a m n t u → Keeps now (Write a) m n
+    → IsOwing m → x < 16 → OwesRightly n → Moving now first (flush_at m t x false) → Moving now first (flush_at n u (x + 1) w)
+flush_moving_step now a first m n t u x w waits once keeps owing few owes h =
     let writes : 16 - x ≡ (16 - (x + 1)) + 1 = omega (arith, few) in
     let spends : Spends 0 0 1 (write_waits a) (flush_at m t x false) (flush_at n u (x + 1) w) =
     record { runs_are = refl; reads_are = refl; writes_are = writes; waits_is = sym waits } in
-    moving_step first (flush_at m t x false) (flush_at n u (x + 1) w) h (Write a, (owing, flush_may m t x few, spends, once), owes)
+    moving_step now first (flush_at m t x false) (flush_at n u (x + 1) w) h (Write a, ((owing, flush_may m t x few, spends, once), keeps), owes)
 
 -- memory was refused in a flush
-pub flush_wants : (first : Moment) (m n : Shown) (t u : Seen) (x : ℕ) → SaysOnce said.Unwritten m n t u → x < 16 → OwesRightly n
-    → Moving first (flush_at m t x false) → Moving first (flush_at n u x false)
-flush_wants first m n t u x says few owes h =
+pub flush_wants : (now : ℕ) (first : Moment) (m n : Shown) (t u : Seen) (x : ℕ) → SaysOnce now said.Unwritten m n t u → x < 16 → OwesRightly n
+    → Moving now first (flush_at m t x false) → Moving now first (flush_at n u x false)
+flush_wants now first m n t u x says few owes h =
     let writes : 16 - x ≡ (16 - x) + 0 = omega arith in
     let spends : Spends 0 0 0 false (flush_at m t x false) (flush_at n u x false) =
     record { runs_are = refl; reads_are = refl; writes_are = writes; waits_is = refl } in
-    moving_step first (flush_at m t x false) (flush_at n u x false) h
-    (Want, (inr (says.1, says.2, flush_may m t x few), spends, says.0, says.3), owes)
+    moving_step now first (flush_at m t x false) (flush_at n u x false) h
+    (Want, ((inr (says.1, says.2, flush_may m t x few), spends, says.0, says.3), says.4), owes)
 
-pub flush_made : (o n : Shown) (s u : Seen) (x : ℕ) (w : Bool) → Moving (flush_at o s 0 false) (flush_at n u x w) → FlushStops (flush_at n u x w)
-    → FlushMade o n s u x
-flush_made o n s u x w h stops = record { moves = h.moves; waited = w; made = h.made; stops = stops }
+pub flush_made : (now : ℕ) (o n : Shown) (s u : Seen) (x : ℕ) (w : Bool) → Moving now (flush_at o s 0 false) (flush_at n u x w) → FlushStops (flush_at n u x w)
+    → FlushMade now o n s u x
+flush_made now o n s u x w h stops = record { moves = h.moves; waited = w; made = h.made; stops = stops }

@@ -1,5 +1,5 @@
 -- What stands behind a read.
-use Rattle.std.proofs.Common.{◌≡◌, ℕ, ◌+◌, ◌-◌, ◌^◌, min, Bool, true, List, [], ◌++◌, length, refl, sym, ap, subst, ◌∙◌, inl}
+use Rattle.std.proofs.Common.{◌≡◌, ℕ, ◌+◌, ◌-◌, ◌^◌, min, Bool, true, List, [], ◌++◌, length, refl, sym, ap, subst, ◌∙◌, inl, None}
 use Rattle.std.proofs.lemmas.List.{append-nil}
 use Rattle.rack_outside.specs.Link.{Seen, IsOneRead, marked}
 use Rattle.rack_outside.specs.Told.{Rose, appended}
@@ -12,28 +12,28 @@ use Rattle.talk_core.specs.Stands.{Stands, silent}
 use Rattle.talk_core.specs.Tail.{Voice}
 use Rattle.talk_core.specs.Talk.{wanting}
 use Rattle.talk_core.specs.Teller.{Teller}
-use Rattle.talk_core.proofs.CallerLemmas.{taken_more, silent_over, stands_given, whole_wanting, shows_given, shows_unread, shows_over}
+use Rattle.talk_core.proofs.CallerLemmas.{taken_more, silent_over, stands_given, whole_wanting, closes_none, shows_given, shows_unread, shows_over}
 use Rattle.conn_core.specs.declared.place.At.{At}
 use Rattle.conn_core.specs.declared.place.At.TheVariants as at
 use Rattle.conn_core.specs.Holds.{Kept, past, Between, HoldsAt, StandsAt}
 use Rattle.conn_core.specs.Steps.{FeedsHeld}
 use Rattle.conn_core.proofs.FeedLemmas.{feeds_hold}
-use Rattle.conn_core.proofs.PlaceLemmas.{kept_same}
+use Rattle.conn_core.proofs.PlaceLemmas.{kept_same, over_same, unclosed}
 
 -- what was sent whole, where nothing stands in what came
-sent_whole : {H : Type 0} (V : Voice H) (T : Teller H) (s : Seen) (c : Kept) (given sent : List ℕ) (over then_over : Bool) (now : List ℕ) → Wanting now → c.held ≡ []
-    → Stands V T over given sent c.calls silent (now ++ c.held) [] → SentWhole T (past s c.calls given sent then_over) wanting now sent
-sent_whole {H} V T s c given sent over then_over now none nothing h =
+pub sent_whole : {H : Type 0} (V : Voice H) (T : Teller H) (s : Seen) (c : Kept) (given sent : List ℕ) (over then_over : Bool) (now : List ℕ) → Wanting now → c.held ≡ []
+    → Stands V T over given sent c.calls silent (now ++ c.held) [] → c.ending.closing ≡ None → SentWhole T (past s c given sent then_over) wanting now sent
+sent_whole {H} V T s c given sent over then_over now none nothing h unclosing =
     let rest : now ++ c.held ≡ now = ap (λ x. now ++ x) nothing ∙ append-nil now in
-    whole_wanting V T (past s c.calls given sent then_over) now c.calls
+    whole_wanting V T (past s c given sent then_over) now c.calls
     (silent_over V T over then_over given sent now [] c.calls (subst (λ (x : List ℕ). Stands V T over given sent c.calls silent x []) rest h))
-    none refl tt
+    none refl (closes_none c.ending.closing c.calls ⊥ now unclosing)
 
 module _ {B H : Type 0} (V : Voice H) (T : Teller H) (old new : Seen) (peer : List ℕ) (c : Kept) (one : IsOneRead old new) where
   -- bytes came, and were fed
   pub took_in : (b : At B H) (piece left : List ℕ) (intake : Intake) (taken : ℕ) → taken ≡ min (c.taken + length piece) (2 ^ 64 - 1) → new.given ≡ appended old.given piece → new.over ≡ old.over
       → FeedsHeld c.intake piece intake left b → StandsAt {B = B} V T old peer at.Reading c
-      → StandsAt V T new peer b (record { intake = intake; held = left; ring = c.ring; calls = c.calls; taken = taken })
+      → StandsAt V T new peer b (record c { intake = intake; held = left; taken = taken })
   took_in b piece left intake taken counted given_is over_is f h =
       let now = h.at.0 in
       let between : Between V T h.over h.given h.sent c now = h.at.3 in
@@ -44,17 +44,17 @@ module _ {B H : Type 0} (V : Voice H) (T : Teller H) (old new : Seen) (peer : Li
         over = h.over;
         shows = shows_given old new peer h.given h.sent h.over piece one given_is over_is h.shows;
         counts = counted ∙ taken_more h.given piece c.taken h.counts;
-        at = subst (λ (x : List ℕ). HoldsAt b V T new h.over (h.given ++ piece) h.sent (record { intake = intake; held = left; ring = x; calls = c.calls; taken = taken }))
+        at = subst (λ (x : List ℕ). HoldsAt b V T new h.over (h.given ++ piece) h.sent (record c { intake = intake; held = left; ring = x; taken = taken }))
             (sym between.ring)
-            (feeds_hold V T new h.over (h.given ++ piece) h.sent c.intake intake piece left c.calls taken now between.live b f between.fed
+            (feeds_hold V T new h.over (h.given ++ piece) h.sent c c.intake intake piece left taken now between.live between.unended b f between.fed
             (subst (λ (x : List ℕ). Stands V T h.over (h.given ++ piece) h.sent c.calls silent x []) rest
             (stands_given V T h.over h.given h.sent (now ++ c.held) piece c.calls between.stands)));
       }
 
   -- nothing came yet
-  pub not_yet : (d : Kept) → d.intake ≡ c.intake → d.held ≡ [] → d.ring ≡ c.ring → d.calls ≡ c.calls → d.taken ≡ c.taken → new.given ≡ old.given → new.over ≡ old.over
+  pub not_yet : (d : Kept) → d.intake ≡ c.intake → d.held ≡ [] → d.ring ≡ c.ring → d.calls ≡ c.calls → d.taken ≡ c.taken → d.ending ≡ c.ending → new.given ≡ old.given → new.over ≡ old.over
       → StandsAt {B = B} V T old peer at.Reading c → StandsAt {B = B} V T new peer at.Reading d
-  not_yet d i e r n t given_is over_is h =
+  not_yet d i e r n t m given_is over_is h =
       let between : Between V T h.over h.given h.sent c h.at.0 = h.at.3 in
       record {
         given = h.given;
@@ -63,31 +63,38 @@ module _ {B H : Type 0} (V : Voice H) (T : Teller H) (old new : Seen) (peer : Li
         shows = shows_unread old new peer h.given h.sent h.over one given_is over_is h.shows;
         counts = t ∙ h.counts;
         at = subst (λ (x : Kept). HoldsAt {B = B} at.Reading V T new h.over h.given h.sent x)
-            (kept_same c d i (e ∙ sym h.at.2) r n t) (h.at.0, h.at.1, h.at.2, between);
+            (kept_same c d i (e ∙ sym h.at.2) r n t m) (h.at.0, h.at.1, h.at.2, between);
       }
 
   -- the peer ended
-  pub read_end : (d : Kept) → d.calls ≡ c.calls → d.taken ≡ c.taken → new.given ≡ old.given → new.over ≡ marked old.over
+  pub read_end : (d : Kept) → d.calls ≡ c.calls → d.taken ≡ c.taken → d.ending ≡ c.ending → new.given ≡ old.given → new.over ≡ marked old.over
       → StandsAt {B = B} V T old peer at.Reading c → StandsAt {B = B} V T new peer (at.Over why.PeerEnd) d
-  read_end d n t given_is over_is h = record {
+  read_end d n t m given_is over_is h = record {
     given = h.given;
     sent = h.sent;
     over = true;
     shows = shows_over old new peer h.given h.sent h.over one given_is over_is h.shows;
     counts = t ∙ h.counts;
-    at = subst (λ (k : ℕ). HoldsAt {B = B} (at.Over why.PeerEnd) V T new true h.given h.sent (record { intake = d.intake; held = d.held; ring = d.ring; calls = k; taken = d.taken })) (sym n)
-        (h.at.0, sent_whole V T new c h.given h.sent h.over true h.at.0 h.at.1 h.at.2 h.at.3.stands, refl);
+    at = over_same why.PeerEnd V T new true h.given h.sent c d n m
+        (h.at.0, sent_whole V T new c h.given h.sent h.over true h.at.0 h.at.1 h.at.2 h.at.3.stands (unclosed c.ending h.at.3.unended), refl);
   }
 
   -- the read failed
-  pub read_failed : (d : Kept) → d.calls ≡ c.calls → d.taken ≡ c.taken → new.given ≡ old.given → new.over ≡ old.over → Rose old.failed_reads new.failed_reads
+  pub read_failed : (d : Kept) → d.calls ≡ c.calls → d.taken ≡ c.taken → d.ending ≡ c.ending → new.given ≡ old.given → new.over ≡ old.over → Rose old.failed_reads new.failed_reads
       → StandsAt {B = B} V T old peer at.Reading c → StandsAt {B = B} V T new peer (at.Over why.ReadFailed) d
-  read_failed d n t given_is over_is rose h = record {
+  read_failed d n t m given_is over_is rose h = record {
     given = h.given;
     sent = h.sent;
     over = h.over;
     shows = shows_unread old new peer h.given h.sent h.over one given_is over_is h.shows;
     counts = t ∙ h.counts;
-    at = subst (λ (k : ℕ). HoldsAt {B = B} (at.Over why.ReadFailed) V T new h.over h.given h.sent (record { intake = d.intake; held = d.held; ring = d.ring; calls = k; taken = d.taken })) (sym n)
-        (rose_some old.failed_reads new.failed_reads rose, inl (wanting, h.at.0, tt, sent_whole V T new c h.given h.sent h.over h.over h.at.0 h.at.1 h.at.2 h.at.3.stands));
+    at = over_same why.ReadFailed V T new h.over h.given h.sent c d n m (
+      rose_some old.failed_reads new.failed_reads rose,
+      inl (
+        wanting,
+        h.at.0,
+        tt,
+        sent_whole V T new c h.given h.sent h.over h.over h.at.0 h.at.1 h.at.2 h.at.3.stands (unclosed c.ending h.at.3.unended),
+      ),
+    );
   }

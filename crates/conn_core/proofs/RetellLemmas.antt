@@ -1,20 +1,23 @@
 -- What stands for one talk stands for another whose replies are the same to the requests that were run.
-use Rattle.std.proofs.Common.{◌≡◌, ℕ, suc, ◌≤◌, Bool, List, [], ◌++◌, sym, ap, subst, ◌∙◌, arith, None}
+use Rattle.std.proofs.Common.{◌≡◌, ℕ, suc, ◌≤◌, Bool, List, [], ◌++◌, sym, ap, subst, ◌∙◌, arith, Option, None, Some}
+use Rattle.std.specs.Prelude.{is_some}
 use Rattle.rack_types.specs.declared.body.Body.{Ghosts}
 use Rattle.rack_types.specs.Request.{Parts}
 use Rattle.rack_outside.specs.Link.{Seen}
+use Rattle.reply_framing.specs.declared.types.After.TheVariants.{Hijack}
 use Rattle.reply_framing.specs.Owes.{Owes}
 use Rattle.reply_framing.specs.Reply.{WholeReply}
 use Rattle.talk_core.specs.declared.ended.Why.{Why}
 use Rattle.talk_core.specs.declared.ended.Why.TheVariants as why
-use Rattle.talk_core.specs.Stands.{silent, replies, refuses, hands_over}
+use Rattle.talk_core.specs.Stands.{silent, replies, refuses, times_out, hands_over}
 use Rattle.talk_core.specs.Tail.{Voice}
 use Rattle.talk_core.specs.Teller.{Teller, AgreesBelow}
-use Rattle.talk_core.proofs.CallerLemmas.{stands_agrees, partly_agrees, ends_agrees, agrees_same, agrees_trans}
+use Rattle.talk_core.proofs.CallerLemmas.{stands_agrees, partly_agrees, ends_agrees, agrees_same, agrees_trans, closes_for}
 use Rattle.conn_core.specs.declared.inside.Inside.{Inside}
+use Rattle.conn_core.specs.declared.moments.Late.{Late}
 use Rattle.conn_core.specs.declared.place.At.{At}
 use Rattle.conn_core.specs.declared.place.At.TheVariants as at
-use Rattle.conn_core.specs.Holds.{Kept, past, Between, Replying, Handed, HoldsAt, StandsAt, HoldsBy}
+use Rattle.conn_core.specs.Holds.{Kept, past, Between, Replying, Handed, Refuses, HoldsAt, StandsAt, HoldsBy}
 use Rattle.conn_core.specs.Plain.{EndsPlainly}
 use Rattle.conn_core.specs.Runs.{RunsBy}
 
@@ -24,6 +27,7 @@ module _ {H : Type 0} (V : Voice H) (T U : Teller H) (s : Seen) (over : Bool) (g
     fed = h.fed;
     ring = h.ring;
     live = h.live;
+    unended = h.unended;
     stands = stands_agrees T U V over given sent c.calls silent (now ++ c.held) [] (λ i lt r. same i (omega (arith, lt)) r) h.stands;
   }
 
@@ -31,6 +35,8 @@ module _ {H : Type 0} (V : Voice H) (T U : Teller H) (s : Seen) (over : Bool) (g
   replying_agrees k r behind h = record {
     count = h.count;
     live = h.live;
+    closes = closes_for c.ending.closing c.calls ((T k r).after ≡ Hijack) ((U k r).after ≡ Hijack) c.held
+        (λ e. sym (ap (λ (w : WholeReply H). w.after) (same k (omega (arith, h.count)) r)) ∙ e) h.closes;
     stands = stands_agrees T U V over given sent k (replies r) c.held (c.ring ++ behind) (λ i lt q. same i (omega (arith, lt, h.count)) q) h.stands;
   }
 
@@ -41,20 +47,21 @@ module _ {H : Type 0} (V : Voice H) (T U : Teller H) (s : Seen) (over : Bool) (g
     first = h.first;
     rest = h.rest;
     count = h.count;
+    closes = h.closes;
     stands = stands_agrees T U V over given sent h.k (hands_over h.request h.first) h.rest c.ring (λ i lt q. same i (omega (arith, lt, h.count)) q) h.stands;
   }
 
   here : (k : ℕ) (r : Parts) → c.calls ≡ suc k → T k r ≡ U k r
   here k r count = same k (omega (arith, count)) r
 
-  ends_so : (w : Why) → EndsPlainly w V T (past s c.calls given sent over) → EndsPlainly w V U (past s c.calls given sent over)
-  ends_so why.Closed e = ends_agrees T U why.Closed V (past s c.calls given sent over) same e
-  ends_so why.PeerEnd e = ends_agrees T U why.PeerEnd V (past s c.calls given sent over) same e
-  ends_so (why.Idle by) e = ends_agrees T U (why.Idle by) V (past s c.calls given sent over) same e
-  ends_so (why.TimedOut since moment) e = ends_agrees T U (why.TimedOut since moment) V (past s c.calls given sent over) same e
-  ends_so (why.Stalled since moment) e = ends_agrees T U (why.Stalled since moment) V (past s c.calls given sent over) same e
-  ends_so (why.Unread level) e = ends_agrees T U (why.Unread level) V (past s c.calls given sent over) same e
-  ends_so why.ReadFailed e = ends_agrees T U why.ReadFailed V (past s c.calls given sent over) same e
+  ends_so : (w : Why) → EndsPlainly (is_some c.ending.late) w V T (past s c given sent over) → EndsPlainly (is_some c.ending.late) w V U (past s c given sent over)
+  ends_so why.Closed e = ends_agrees T U why.Closed V (past s c given sent over) same e
+  ends_so why.PeerEnd e = ends_agrees T U why.PeerEnd V (past s c given sent over) same e
+  ends_so (why.Idle by) e = ends_agrees T U (why.Idle by) V (past s c given sent over) same e
+  ends_so (why.TimedOut since moment) e = ends_agrees T U (why.TimedOut since moment) V (past s c given sent over) same e
+  ends_so (why.Stalled since moment) e = ends_agrees T U (why.Stalled since moment) V (past s c given sent over) same e
+  ends_so (why.Unread level) e = ends_agrees T U (why.Unread level) V (past s c given sent over) same e
+  ends_so why.ReadFailed e = ends_agrees T U why.ReadFailed V (past s c given sent over) same e
   ends_so why.WriteFailed e = (
     e.0,
     (
@@ -62,21 +69,35 @@ module _ {H : Type 0} (V : Voice H) (T U : Teller H) (s : Seen) (over : Bool) (g
       record {
         word = e.1.1.word;
         untimed = e.1.1.untimed;
-        partly = partly_agrees T U V over given sent c.calls None e.1.1.word e.1.0 same e.1.1.partly;
+        partly = partly_agrees T U V over given sent c.calls c.ending.closing e.1.1.word e.1.0 same e.1.1.partly;
       },
       e.1.2,
     ),
   )
-  ends_so (why.Halted level) e = ends_agrees T U (why.Halted level) V (past s c.calls given sent over) same e
+  ends_so (why.Halted level) e = ends_agrees T U (why.Halted level) V (past s c given sent over) same e
   ends_so why.NoMemory e = (
     e.0,
     record {
       word = e.1.word;
       untimed = e.1.untimed;
-      partly = partly_agrees T U V over given sent c.calls None e.1.word e.0 same e.1.partly;
+      partly = partly_agrees T U V over given sent c.calls c.ending.closing e.1.word e.0 same e.1.partly;
     },
   )
-  ends_so why.Hijacked e = ends_agrees T U why.Hijacked V (past s c.calls given sent over) same e
+  ends_so why.Hijacked e = ends_agrees T U why.Hijacked V (past s c given sent over) same e
+
+  refuses_agrees : (late : Option Late) → Refuses late V T over given sent c → Refuses late V U over given sent c
+  refuses_agrees None h = (
+    h.0,
+    h.1,
+    stands_agrees T U V over given sent c.calls (refuses h.0) h.1 c.ring (λ i lt r. same i (omega (arith, lt)) r) h.2,
+    h.3,
+  )
+  refuses_agrees (Some late) h = (
+    h.0,
+    stands_agrees T U V over given sent c.calls times_out h.0 c.ring (λ i lt r. same i (omega (arith, lt)) r) h.1,
+    h.2,
+    h.3,
+  )
 
   retold_at : {B : Type 0} (a : At B H) → HoldsAt a V T s over given sent c → HoldsAt a V U s over given sent c
   retold_at {B} at.Reading h = (h.0, h.1, h.2, between_agrees h.0 h.3)
@@ -105,11 +126,7 @@ module _ {H : Type 0} (V : Voice H) (T U : Teller H) (s : Seen) (over : Bool) (g
   retold_at {B} (at.Taken who) h = record { handed = handed_agrees h.handed; live = h.live; goes = h.goes; behind = h.behind }
   retold_at {B} (at.Speaking who) h = record { handed = handed_agrees h.handed; live = h.live; goes = h.goes; behind = h.behind }
   retold_at {B} at.Parting h = record { handed = handed_agrees h.handed; ended = h.ended }
-  retold_at {B} at.Refusing h = (
-    h.0,
-    h.1,
-    stands_agrees T U V over given sent c.calls (refuses h.0) h.1 c.ring (λ i lt r. same i (omega (arith, lt)) r) h.2,
-  )
+  retold_at {B} at.Refusing h = refuses_agrees c.ending.late h
   retold_at {B} (at.Over w) h = ends_so w h
 
 pub retold : {B H : Type 0} (V : Voice H) (T U : Teller H) (s : Seen) (peer : List ℕ) (a : At B H) (c : Kept) → AgreesBelow c.calls T U

@@ -1,15 +1,18 @@
 -- What a connection shows behind a write.
-use Rattle.std.proofs.Common.{◌≡◌, ℕ, ◌-◌, ◌<◌, ◌≤◌, Bool, true, false, List, [], ◌++◌, length, refl, sym, ap, subst, ◌∙◌, arith, length-append, Some}
+use Rattle.std.proofs.Common.{◌≡◌, ℕ, ◌-◌, ◌<◌, ◌≤◌, Bool, true, false, List, [], ◌++◌, length, refl, sym, ap, subst, ◌∙◌, arith, length-append, Option, None, Some}
 use Rattle.rack_outside.specs.Link.{Seen, IsOneWrite}
 use Rattle.message_framing.specs.declared.intake.Intake.{Intake}
 use Rattle.talk_core.specs.declared.ended.Why.{Why}
 use Rattle.talk_core.specs.declared.ended.Why.TheVariants as why
 use Rattle.talk_core.specs.Tail.{Voice}
+use Rattle.conn_core.specs.declared.moments.Ending.{Ending}
+use Rattle.conn_core.specs.declared.moments.Late.{Late}
 use Rattle.conn_core.specs.declared.place.At.{At}
 use Rattle.conn_core.specs.declared.place.At.TheVariants as at
 use Rattle.conn_core.specs.declared.state.State.TheVariants as state
 use Rattle.conn_core.specs.Calls.{TurnEnds, IsOfFlush}
 use Rattle.conn_core.specs.Inner.{SaysOn, IsFilledAt}
+use Rattle.conn_core.specs.Moments.{ended_by}
 use Rattle.conn_core.specs.Place.{state_at, IsSaying}
 use Rattle.conn_core.specs.Rests.{RestsAt}
 use Rattle.conn_core.specs.Shown.{Shown, Moved, replied_at, owed_at, why_at}
@@ -95,10 +98,10 @@ filled_live {B} {H} at.Parting ring is e = cc
 filled_live {B} {H} (at.Over ended) ring is e = absurd is
 
 -- what the place behind a write shows
-pub record SaidShown {B H : Type 0} (a b : At B H) (before ring : List ℕ) (calls : ℕ) (s s' : Seen) : Type 0 where
+pub record SaidShown {B H : Type 0} (late : Option Late) (a b : At B H) (before ring : List ℕ) (calls : ℕ) (s s' : Seen) : Type 0 where
   pub replied : SaysOn (state_at a) (state_at b) (replied_at a calls) (replied_at b calls)
   pub why : IsOfFlush (why_at b)
-  pub ends : TurnEnds (why_at b) s s'
+  pub ends : TurnEnds late (why_at b) s s'
   pub less : state_at b ≡ state_at a → length (owed_at b ring) < length (owed_at a before)
 
 shorter : (piece after before : List ℕ) → before ≡ piece ++ after → 0 < length piece → length after < length before
@@ -109,104 +112,111 @@ shorter_with more piece after before is some =
     omega (arith, some, ap length is, length-append piece after, length-append after more, length-append before more)
 
 -- some bytes of the ring were taken, and some are left
-pub said_on : {B H : Type 0} (a : At B H) (before piece after : List ℕ) (calls : ℕ) (s s' : Seen) → IsFilledAt a before → before ≡ piece ++ after
-    → 0 < length piece → s'.over ≡ s.over → SaidShown a a before after calls s s'
-said_on {B} {H} at.Reading before piece after calls s s' filled is some over = absurd filled
-said_on {B} {H} at.Asked before piece after calls s s' filled is some over = absurd filled
-said_on {B} {H} (at.Refused fault) before piece after calls s s' filled is some over = absurd filled
-said_on {B} {H} (at.Answering f) before piece after calls s s' filled is some over =
+pub said_on : {B H : Type 0} (late : Option Late) (a : At B H) (before piece after : List ℕ) (calls : ℕ) (s s' : Seen) → IsFilledAt a before → before ≡ piece ++ after
+    → 0 < length piece → s'.over ≡ s.over → SaidShown late a a before after calls s s'
+said_on {B} {H} late at.Reading before piece after calls s s' filled is some over = absurd filled
+said_on {B} {H} late at.Asked before piece after calls s s' filled is some over = absurd filled
+said_on {B} {H} late (at.Refused fault) before piece after calls s s' filled is some over = absurd filled
+said_on {B} {H} late (at.Answering f) before piece after calls s s' filled is some over =
     record { replied = (refl, refl); why = tt; ends = over; less = λ e. shorter_with f.rest.bytes piece after before is some }
-said_on {B} {H} (at.Writing keeps) before piece after calls s s' filled is some over =
+said_on {B} {H} late (at.Writing keeps) before piece after calls s s' filled is some over =
     record { replied = (refl, refl); why = tt; ends = over; less = λ e. shorter piece after before is some }
-said_on {B} {H} (at.Handing h) before piece after calls s s' filled is some over =
+said_on {B} {H} late (at.Handing h) before piece after calls s s' filled is some over =
     record { replied = (refl, refl); why = tt; ends = over; less = λ e. shorter piece after before is some }
-said_on {B} {H} at.Refusing before piece after calls s s' filled is some over =
+said_on {B} {H} late at.Refusing before piece after calls s s' filled is some over =
     record { replied = (refl, refl); why = tt; ends = over; less = λ e. shorter piece after before is some }
-said_on {B} {H} (at.Taken h) before piece after calls s s' filled is some over = absurd filled
-said_on {B} {H} (at.Speaking h) before piece after calls s s' filled is some over =
+said_on {B} {H} late (at.Taken h) before piece after calls s s' filled is some over = absurd filled
+said_on {B} {H} late (at.Speaking h) before piece after calls s s' filled is some over =
     record { replied = refl; why = tt; ends = over; less = λ e. shorter piece after before is some }
-said_on {B} {H} at.Parting before piece after calls s s' filled is some over =
+said_on {B} {H} late at.Parting before piece after calls s s' filled is some over =
     record { replied = refl; why = tt; ends = over; less = λ e. shorter piece after before is some }
-said_on {B} {H} (at.Over ended) before piece after calls s s' filled is some over = absurd filled
+said_on {B} {H} late (at.Over ended) before piece after calls s s' filled is some over = absurd filled
 
 -- it ended in this write
-pub said_over : {B H : Type 0} (a : At B H) (w : Why) (before ring : List ℕ) (calls : ℕ) (s s' : Seen) → IsFilledAt a before → IsOfFlush (Some w)
-    → TurnEnds (Some w) s s' → SaidShown a (at.Over w) before ring calls s s'
-said_over {B} {H} a w before ring calls s s' filled of ends =
+pub said_over : {B H : Type 0} (late : Option Late) (a : At B H) (w : Why) (before ring : List ℕ) (calls : ℕ) (s s' : Seen) → IsFilledAt a before → IsOfFlush (Some w)
+    → TurnEnds late (Some w) s s' → SaidShown late a (at.Over w) before ring calls s s'
+said_over {B} {H} late a w before ring calls s s' filled of ends =
     record { replied = tt; why = of; ends = ends; less = λ e. absurd (filled_live a before filled e) }
 
 below : (calls : ℕ) → 0 < calls → calls - 1 < calls
 below calls some = omega (arith, some)
 
 -- the connection went on behind a reply
-fed_behind : {B H : Type 0} (keeps : Bool) (b : At B H) (before ring : List ℕ) (calls : ℕ) (s s' : Seen) (fresh new : Intake) (held left : List ℕ)
-    → FeedsHeld fresh held new left b → 0 < length before → 0 < calls → s'.over ≡ s.over → SaidShown (at.Writing keeps) b before ring calls s s'
-fed_behind {B} {H} keeps at.Reading before ring calls s s' fresh new held left f filled some over =
+fed_behind : {B H : Type 0} (late : Option Late) (keeps : Bool) (b : At B H) (before ring : List ℕ) (calls : ℕ) (s s' : Seen) (fresh new : Intake) (held left : List ℕ)
+    → FeedsHeld fresh held new left b → 0 < length before → 0 < calls → s'.over ≡ s.over → SaidShown late (at.Writing keeps) b before ring calls s s'
+fed_behind {B} {H} late keeps at.Reading before ring calls s s' fresh new held left f filled some over =
     record { replied = (refl, below calls some); why = tt; ends = over; less = λ e. cc }
-fed_behind {B} {H} keeps at.Asked before ring calls s s' fresh new held left f filled some over =
+fed_behind {B} {H} late keeps at.Asked before ring calls s s' fresh new held left f filled some over =
     record { replied = (refl, below calls some); why = tt; ends = over; less = λ e. cc }
-fed_behind {B} {H} keeps (at.Refused fault) before ring calls s s' fresh new held left f filled some over =
+fed_behind {B} {H} late keeps (at.Refused fault) before ring calls s s' fresh new held left f filled some over =
     record { replied = (refl, below calls some); why = tt; ends = over; less = λ e. cc }
-fed_behind {B} {H} keeps (at.Answering framer) before ring calls s s' fresh new held left f filled some over = absurd f
-fed_behind {B} {H} keeps (at.Writing k) before ring calls s s' fresh new held left f filled some over = absurd f
-fed_behind {B} {H} keeps (at.Handing now) before ring calls s s' fresh new held left f filled some over = absurd f
-fed_behind {B} {H} keeps at.Refusing before ring calls s s' fresh new held left f filled some over = absurd f
-fed_behind {B} {H} keeps (at.Taken now) before ring calls s s' fresh new held left f filled some over = absurd f
-fed_behind {B} {H} keeps (at.Speaking now) before ring calls s s' fresh new held left f filled some over = absurd f
-fed_behind {B} {H} keeps at.Parting before ring calls s s' fresh new held left f filled some over = absurd f
-fed_behind {B} {H} keeps (at.Over why.Closed) before ring calls s s' fresh new held left f filled some over = absurd f
-fed_behind {B} {H} keeps (at.Over why.PeerEnd) before ring calls s s' fresh new held left f filled some over = absurd f
-fed_behind {B} {H} keeps (at.Over (why.Idle by)) before ring calls s s' fresh new held left f filled some over = absurd f
-fed_behind {B} {H} keeps (at.Over (why.TimedOut since moment)) before ring calls s s' fresh new held left f filled some over = absurd f
-fed_behind {B} {H} keeps (at.Over (why.Stalled since moment)) before ring calls s s' fresh new held left f filled some over = absurd f
-fed_behind {B} {H} keeps (at.Over (why.Unread level)) before ring calls s s' fresh new held left f filled some over = absurd f
-fed_behind {B} {H} keeps (at.Over why.ReadFailed) before ring calls s s' fresh new held left f filled some over = absurd f
-fed_behind {B} {H} keeps (at.Over why.WriteFailed) before ring calls s s' fresh new held left f filled some over = absurd f
-fed_behind {B} {H} keeps (at.Over (why.Halted level)) before ring calls s s' fresh new held left f filled some over = absurd f
-fed_behind {B} {H} keeps (at.Over why.NoMemory) before ring calls s s' fresh new held left f filled some over =
-    said_over (at.Writing keeps) why.NoMemory before ring calls s s' filled tt over
-fed_behind {B} {H} keeps (at.Over why.Hijacked) before ring calls s s' fresh new held left f filled some over = absurd f
+fed_behind {B} {H} late keeps (at.Answering framer) before ring calls s s' fresh new held left f filled some over = absurd f
+fed_behind {B} {H} late keeps (at.Writing k) before ring calls s s' fresh new held left f filled some over = absurd f
+fed_behind {B} {H} late keeps (at.Handing now) before ring calls s s' fresh new held left f filled some over = absurd f
+fed_behind {B} {H} late keeps at.Refusing before ring calls s s' fresh new held left f filled some over = absurd f
+fed_behind {B} {H} late keeps (at.Taken now) before ring calls s s' fresh new held left f filled some over = absurd f
+fed_behind {B} {H} late keeps (at.Speaking now) before ring calls s s' fresh new held left f filled some over = absurd f
+fed_behind {B} {H} late keeps at.Parting before ring calls s s' fresh new held left f filled some over = absurd f
+fed_behind {B} {H} late keeps (at.Over why.Closed) before ring calls s s' fresh new held left f filled some over = absurd f
+fed_behind {B} {H} late keeps (at.Over why.PeerEnd) before ring calls s s' fresh new held left f filled some over = absurd f
+fed_behind {B} {H} late keeps (at.Over (why.Idle by)) before ring calls s s' fresh new held left f filled some over = absurd f
+fed_behind {B} {H} late keeps (at.Over (why.TimedOut since moment)) before ring calls s s' fresh new held left f filled some over = absurd f
+fed_behind {B} {H} late keeps (at.Over (why.Stalled since moment)) before ring calls s s' fresh new held left f filled some over = absurd f
+fed_behind {B} {H} late keeps (at.Over (why.Unread level)) before ring calls s s' fresh new held left f filled some over = absurd f
+fed_behind {B} {H} late keeps (at.Over why.ReadFailed) before ring calls s s' fresh new held left f filled some over = absurd f
+fed_behind {B} {H} late keeps (at.Over why.WriteFailed) before ring calls s s' fresh new held left f filled some over = absurd f
+fed_behind {B} {H} late keeps (at.Over (why.Halted level)) before ring calls s s' fresh new held left f filled some over = absurd f
+fed_behind {B} {H} late keeps (at.Over why.NoMemory) before ring calls s s' fresh new held left f filled some over =
+    said_over late (at.Writing keeps) why.NoMemory before ring calls s s' filled tt over
+fed_behind {B} {H} late keeps (at.Over why.Hijacked) before ring calls s s' fresh new held left f filled some over = absurd f
 
 -- a hijacker took the connection over behind it
-told_behind : {B H : Type 0} (V : Voice H) (h : H) (b : At B H) (before ring held left : List ℕ) (calls : ℕ) (s s' : Seen)
-    → Tells V h held b ring left → 0 < length before → 0 < calls → s'.over ≡ s.over → SaidShown (at.Handing h) b before ring calls s s'
-told_behind {B} {H} V h at.Reading before ring held left calls s s' f filled some over = absurd f
-told_behind {B} {H} V h at.Asked before ring held left calls s s' f filled some over = absurd f
-told_behind {B} {H} V h (at.Refused fault) before ring held left calls s s' f filled some over = absurd f
-told_behind {B} {H} V h (at.Answering framer) before ring held left calls s s' f filled some over = absurd f
-told_behind {B} {H} V h (at.Writing k) before ring held left calls s s' f filled some over = absurd f
-told_behind {B} {H} V h (at.Handing now) before ring held left calls s s' f filled some over = absurd f
-told_behind {B} {H} V h at.Refusing before ring held left calls s s' f filled some over = absurd f
-told_behind {B} {H} V h (at.Taken now) before ring held left calls s s' f filled some over =
+told_behind : {B H : Type 0} (late : Option Late) (V : Voice H) (h : H) (b : At B H) (before ring held left : List ℕ) (calls : ℕ) (s s' : Seen)
+    → Tells V h held b ring left → 0 < length before → 0 < calls → s'.over ≡ s.over → SaidShown late (at.Handing h) b before ring calls s s'
+told_behind {B} {H} late V h at.Reading before ring held left calls s s' f filled some over = absurd f
+told_behind {B} {H} late V h at.Asked before ring held left calls s s' f filled some over = absurd f
+told_behind {B} {H} late V h (at.Refused fault) before ring held left calls s s' f filled some over = absurd f
+told_behind {B} {H} late V h (at.Answering framer) before ring held left calls s s' f filled some over = absurd f
+told_behind {B} {H} late V h (at.Writing k) before ring held left calls s s' f filled some over = absurd f
+told_behind {B} {H} late V h (at.Handing now) before ring held left calls s s' f filled some over = absurd f
+told_behind {B} {H} late V h at.Refusing before ring held left calls s s' f filled some over = absurd f
+told_behind {B} {H} late V h (at.Taken now) before ring held left calls s s' f filled some over =
     record { replied = below calls some; why = tt; ends = over; less = λ e. cc }
-told_behind {B} {H} V h (at.Speaking now) before ring held left calls s s' f filled some over =
+told_behind {B} {H} late V h (at.Speaking now) before ring held left calls s s' f filled some over =
     record { replied = below calls some; why = tt; ends = over; less = λ e. cc }
-told_behind {B} {H} V h at.Parting before ring held left calls s s' f filled some over =
+told_behind {B} {H} late V h at.Parting before ring held left calls s s' f filled some over =
     record { replied = below calls some; why = tt; ends = over; less = λ e. cc }
-told_behind {B} {H} V h (at.Over why.Closed) before ring held left calls s s' f filled some over = absurd f
-told_behind {B} {H} V h (at.Over why.PeerEnd) before ring held left calls s s' f filled some over = absurd f
-told_behind {B} {H} V h (at.Over (why.Idle by)) before ring held left calls s s' f filled some over = absurd f
-told_behind {B} {H} V h (at.Over (why.TimedOut since moment)) before ring held left calls s s' f filled some over = absurd f
-told_behind {B} {H} V h (at.Over (why.Stalled since moment)) before ring held left calls s s' f filled some over = absurd f
-told_behind {B} {H} V h (at.Over (why.Unread level)) before ring held left calls s s' f filled some over = absurd f
-told_behind {B} {H} V h (at.Over why.ReadFailed) before ring held left calls s s' f filled some over = absurd f
-told_behind {B} {H} V h (at.Over why.WriteFailed) before ring held left calls s s' f filled some over = absurd f
-told_behind {B} {H} V h (at.Over (why.Halted level)) before ring held left calls s s' f filled some over = absurd f
-told_behind {B} {H} V h (at.Over why.NoMemory) before ring held left calls s s' f filled some over =
-    said_over (at.Handing h) why.NoMemory before ring calls s s' filled tt over
-told_behind {B} {H} V h (at.Over why.Hijacked) before ring held left calls s s' f filled some over =
-    said_over (at.Handing h) why.Hijacked before ring calls s s' filled tt over
+told_behind {B} {H} late V h (at.Over why.Closed) before ring held left calls s s' f filled some over = absurd f
+told_behind {B} {H} late V h (at.Over why.PeerEnd) before ring held left calls s s' f filled some over = absurd f
+told_behind {B} {H} late V h (at.Over (why.Idle by)) before ring held left calls s s' f filled some over = absurd f
+told_behind {B} {H} late V h (at.Over (why.TimedOut since moment)) before ring held left calls s s' f filled some over = absurd f
+told_behind {B} {H} late V h (at.Over (why.Stalled since moment)) before ring held left calls s s' f filled some over = absurd f
+told_behind {B} {H} late V h (at.Over (why.Unread level)) before ring held left calls s s' f filled some over = absurd f
+told_behind {B} {H} late V h (at.Over why.ReadFailed) before ring held left calls s s' f filled some over = absurd f
+told_behind {B} {H} late V h (at.Over why.WriteFailed) before ring held left calls s s' f filled some over = absurd f
+told_behind {B} {H} late V h (at.Over (why.Halted level)) before ring held left calls s s' f filled some over = absurd f
+told_behind {B} {H} late V h (at.Over why.NoMemory) before ring held left calls s s' f filled some over =
+    said_over late (at.Handing h) why.NoMemory before ring calls s s' filled tt over
+told_behind {B} {H} late V h (at.Over why.Hijacked) before ring held left calls s s' f filled some over =
+    said_over late (at.Handing h) why.Hijacked before ring calls s s' filled tt over
+
+-- the reply that closes was sent whole
+ended_shown : {B H : Type 0} (late : Option Late) (before ring : List ℕ) (calls : ℕ) (s s' : Seen) → 0 < length before → s'.over ≡ s.over
+    → SaidShown {B = B} {H = H} late at.Refusing (at.Over (ended_by late)) before ring calls s s'
+ended_shown {B} {H} None before ring calls s s' f over = said_over None at.Refusing why.Closed before ring calls s s' f tt over
+ended_shown {B} {H} (Some late) before ring calls s s' f over =
+    said_over (Some late) at.Refusing (why.TimedOut late.since late.now) before ring calls s s' f tt (refl, over)
 
 -- all of the ring was taken
-pub said_whole : {B H : Type 0} (V : Voice H) (a b : At B H) (before ring : List ℕ) (calls : ℕ) (s s' : Seen) (old new : Intake) (held left : List ℕ)
-    → CompletesTo V a old held b new left ring → IsFilledAt a before → RestsAt a old held before calls → s'.over ≡ s.over
-    → SaidShown a b before ring calls s s'
-said_whole {B} {H} V at.Reading b before ring calls s s' old new held left e f rests over = absurd f
-said_whole {B} {H} V at.Asked b before ring calls s s' old new held left e f rests over = absurd f
-said_whole {B} {H} V (at.Refused fault) b before ring calls s s' old new held left e f rests over = absurd f
-said_whole {B} {H} V (at.Answering framer) b before ring calls s s' old new held left e f rests over =
-    subst (λ (d : At B H). SaidShown (at.Answering framer) d before ring calls s s') (sym e.0)
-    (subst (λ (z : List ℕ). SaidShown {B = B} {H = H} (at.Answering framer) (at.Answering framer) before z calls s s') (sym e.2)
+pub said_whole : {B H : Type 0} (late : Option Late) (V : Voice H) (a b : At B H) (before ring : List ℕ) (calls : ℕ) (s s' : Seen) (old new : Intake) (held left : List ℕ) (m : Ending)
+    → CompletesTo late V a old held b new left ring → IsFilledAt a before → RestsAt a old held before calls m → s'.over ≡ s.over
+    → SaidShown late a b before ring calls s s'
+said_whole {B} {H} late V at.Reading b before ring calls s s' old new held left m e f rests over = absurd f
+said_whole {B} {H} late V at.Asked b before ring calls s s' old new held left m e f rests over = absurd f
+said_whole {B} {H} late V (at.Refused fault) b before ring calls s s' old new held left m e f rests over = absurd f
+said_whole {B} {H} late V (at.Answering framer) b before ring calls s s' old new held left m e f rests over =
+    subst (λ (d : At B H). SaidShown late (at.Answering framer) d before ring calls s s') (sym e.0)
+    (subst (λ (z : List ℕ). SaidShown {B = B} {H = H} late (at.Answering framer) (at.Answering framer) before z calls s s') (sym e.2)
     (record {
       replied = (refl, refl);
       why = tt;
@@ -216,37 +226,37 @@ said_whole {B} {H} V (at.Answering framer) b before ring calls s s' old new held
   where
     more : 0 < length before → length ([] ++ framer.rest.bytes) < length (before ++ framer.rest.bytes)
     more some = omega (arith, some, length-append before framer.rest.bytes)
-said_whole {B} {H} V (at.Writing true) b before ring calls s s' old new held left e f rests over =
-    fed_behind true b before ring calls s s' e.0 new held left e.2 f rests.1.1.0 over
-said_whole {B} {H} V (at.Writing false) b before ring calls s s' old new held left e f rests over =
-    subst (λ (d : At B H). SaidShown (at.Writing false) d before ring calls s s') (sym e.0)
-    (said_over (at.Writing false) why.Closed before ring calls s s' f tt over)
-said_whole {B} {H} V (at.Handing h) b before ring calls s s' old new held left e f rests over =
-    told_behind V h b before ring held left calls s s' e f rests.1 over
-said_whole {B} {H} V at.Refusing b before ring calls s s' old new held left e f rests over =
-    subst (λ (d : At B H). SaidShown at.Refusing d before ring calls s s') (sym e.0)
-    (said_over at.Refusing why.Closed before ring calls s s' f tt over)
-said_whole {B} {H} V (at.Taken h) b before ring calls s s' old new held left e f rests over = absurd f
-said_whole {B} {H} V (at.Speaking h) b before ring calls s s' old new held left e f rests over =
-    subst (λ (d : At B H). SaidShown (at.Speaking h) d before ring calls s s') (sym e.0)
-    (subst (λ (z : List ℕ). SaidShown {B = B} {H = H} (at.Speaking h) (at.Taken h) before z calls s s') (sym e.2)
+said_whole {B} {H} late V (at.Writing true) b before ring calls s s' old new held left m e f rests over =
+    fed_behind late true b before ring calls s s' e.0 new held left e.2 f rests.1.1.0 over
+said_whole {B} {H} late V (at.Writing false) b before ring calls s s' old new held left m e f rests over =
+    subst (λ (d : At B H). SaidShown late (at.Writing false) d before ring calls s s') (sym e.0)
+    (said_over late (at.Writing false) why.Closed before ring calls s s' f tt over)
+said_whole {B} {H} late V (at.Handing h) b before ring calls s s' old new held left m e f rests over =
+    told_behind late V h b before ring held left calls s s' e f rests.1 over
+said_whole {B} {H} late V at.Refusing b before ring calls s s' old new held left m e f rests over =
+    subst (λ (d : At B H). SaidShown late at.Refusing d before ring calls s s') (sym e.0)
+    (ended_shown late before ring calls s s' f over)
+said_whole {B} {H} late V (at.Taken h) b before ring calls s s' old new held left m e f rests over = absurd f
+said_whole {B} {H} late V (at.Speaking h) b before ring calls s s' old new held left m e f rests over =
+    subst (λ (d : At B H). SaidShown late (at.Speaking h) d before ring calls s s') (sym e.0)
+    (subst (λ (z : List ℕ). SaidShown {B = B} {H = H} late (at.Speaking h) (at.Taken h) before z calls s s') (sym e.2)
     (record { replied = refl; why = tt; ends = over; less = λ x. f }))
-said_whole {B} {H} V at.Parting b before ring calls s s' old new held left e f rests over =
-    subst (λ (d : At B H). SaidShown at.Parting d before ring calls s s') (sym e.0)
-    (said_over at.Parting why.Hijacked before ring calls s s' f tt over)
-said_whole {B} {H} V (at.Over ended) b before ring calls s s' old new held left e f rests over = absurd f
+said_whole {B} {H} late V at.Parting b before ring calls s s' old new held left m e f rests over =
+    subst (λ (d : At B H). SaidShown late at.Parting d before ring calls s s') (sym e.0)
+    (said_over late at.Parting why.Hijacked before ring calls s s' f tt over)
+said_whole {B} {H} late V (at.Over ended) b before ring calls s s' old new held left m e f rests over = absurd f
 
 -- the link took nothing yet
-pub waiting_shown : {B H : Type 0} (a : At B H) (ring : List ℕ) (calls : ℕ) (s s' : Seen) → IsFilledAt a ring → s'.over ≡ s.over
-    → SaysOn (state_at a) (state_at a) (replied_at a calls) (replied_at a calls) × IsOfFlush (why_at a) × TurnEnds (why_at a) s s'
-waiting_shown {B} {H} at.Reading ring calls s s' filled over = absurd filled
-waiting_shown {B} {H} at.Asked ring calls s s' filled over = absurd filled
-waiting_shown {B} {H} (at.Refused fault) ring calls s s' filled over = absurd filled
-waiting_shown {B} {H} (at.Answering f) ring calls s s' filled over = ((refl, refl), tt, over)
-waiting_shown {B} {H} (at.Writing keeps) ring calls s s' filled over = ((refl, refl), tt, over)
-waiting_shown {B} {H} (at.Handing h) ring calls s s' filled over = ((refl, refl), tt, over)
-waiting_shown {B} {H} at.Refusing ring calls s s' filled over = ((refl, refl), tt, over)
-waiting_shown {B} {H} (at.Taken h) ring calls s s' filled over = absurd filled
-waiting_shown {B} {H} (at.Speaking h) ring calls s s' filled over = (refl, tt, over)
-waiting_shown {B} {H} at.Parting ring calls s s' filled over = (refl, tt, over)
-waiting_shown {B} {H} (at.Over ended) ring calls s s' filled over = absurd filled
+pub waiting_shown : {B H : Type 0} (late : Option Late) (a : At B H) (ring : List ℕ) (calls : ℕ) (s s' : Seen) → IsFilledAt a ring → s'.over ≡ s.over
+    → SaysOn (state_at a) (state_at a) (replied_at a calls) (replied_at a calls) × IsOfFlush (why_at a) × TurnEnds late (why_at a) s s'
+waiting_shown {B} {H} late at.Reading ring calls s s' filled over = absurd filled
+waiting_shown {B} {H} late at.Asked ring calls s s' filled over = absurd filled
+waiting_shown {B} {H} late (at.Refused fault) ring calls s s' filled over = absurd filled
+waiting_shown {B} {H} late (at.Answering f) ring calls s s' filled over = ((refl, refl), tt, over)
+waiting_shown {B} {H} late (at.Writing keeps) ring calls s s' filled over = ((refl, refl), tt, over)
+waiting_shown {B} {H} late (at.Handing h) ring calls s s' filled over = ((refl, refl), tt, over)
+waiting_shown {B} {H} late at.Refusing ring calls s s' filled over = ((refl, refl), tt, over)
+waiting_shown {B} {H} late (at.Taken h) ring calls s s' filled over = absurd filled
+waiting_shown {B} {H} late (at.Speaking h) ring calls s s' filled over = (refl, tt, over)
+waiting_shown {B} {H} late at.Parting ring calls s s' filled over = (refl, tt, over)
+waiting_shown {B} {H} late (at.Over ended) ring calls s s' filled over = absurd filled

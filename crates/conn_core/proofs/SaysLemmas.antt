@@ -1,5 +1,5 @@
 -- What is said behind a fill.
-use Rattle.std.proofs.Common.{◌≡◌, ℕ, ◌+◌, ◌<◌, ◌≤◌, Bool, true, false, List, [], length, take, drop, refl, sym, ap, subst, ◌∙◌, arith, Option, inl, inr}
+use Rattle.std.proofs.Common.{◌≡◌, ◌≢◌, ℕ, ◌+◌, ◌<◌, ◌≤◌, false, List, [], length, take, drop, refl, sym, ap, subst, ◌∙◌, arith, Option, Some, inl, inr}
 use Rattle.rack_outside.specs.Link.{Seen, Writes, IsOneWrite, WritesAhead, next_place}
 use Rattle.rack_outside.specs.declared.link.LinkWrite.{LinkWrite}
 use Rattle.rack_outside.specs.declared.link.LinkWrite.TheVariants as write
@@ -15,19 +15,23 @@ use Rattle.conn_core.specs.declared.state.State.TheVariants as state
 use Rattle.conn_core.specs.Calls.{TurnEnds, IsOfFlush}
 use Rattle.conn_core.specs.Inner.{SaysOn, SaidLeaves, Says, SaysOnce, Fills}
 use Rattle.conn_core.specs.Moves.{ring_room, SameShown, WantsMemory, StillOwes, KeptTo, SentTo, BehindWrite, WritesOnce}
+use Rattle.conn_core.specs.Keeps.{no_bytes}
+use Rattle.conn_core.specs.Moments.{ended_by}
 use Rattle.conn_core.specs.Shown.{Shown}
+use Rattle.conn_core.specs.declared.moments.Ending.{Ending}
+use Rattle.conn_core.proofs.KeepsLemmas.{keeps_behind}
 use Rattle.conn_core.proofs.ShownLemmas.{appended_nil}
 
-leaves_behind : (result : Said) (old mid new : Shown) (s s' : Seen) → Fills old mid → SaidLeaves result mid new s s' → SaidLeaves result old new s s'
-leaves_behind said.Unwritten old mid new s s' f l = l
-leaves_behind said.Wrote old mid new s s' f l =
+leaves_behind : (now : ℕ) (result : Said) (old mid new : Shown) (s s' : Seen) → Fills now old mid → SaidLeaves result mid new s s' → SaidLeaves result old new s s'
+leaves_behind now said.Unwritten old mid new s s' f l = l
+leaves_behind now said.Wrote old mid new s s' f l =
     λ is. subst (λ (x : List ℕ). length new.owed < length x) f.owed (l (is ∙ sym f.state))
-leaves_behind said.Waits old mid new s s' f l =
+leaves_behind now said.Waits old mid new s s' f l =
     (l.0 ∙ f.state, l.1, subst (λ (x : List ℕ). length new.owed ≤ length x) f.owed l.2, l.3)
 
 -- a fill changes nothing of what is shown
-pub says_behind : (result : Said) (old mid new : Shown) (s s' : Seen) → Fills old mid → Says result mid new s s' → Says result old new s s'
-says_behind result old mid new s s' f h = record {
+pub says_behind : (now : ℕ) (result : Said) (old mid new : Shown) (s s' : Seen) → Fills now old mid → Says result mid new s s' → Says result old new s s'
+says_behind now result old mid new s s' f h = record {
   moved = record {
     peer = h.moved.peer ∙ f.same.peer;
     local = h.moved.local ∙ f.same.local;
@@ -51,8 +55,8 @@ says_behind result old mid new s s' f h = record {
   replied = subst (λ (x : State). SaysOn x new.state old.replied new.replied) f.state
       (subst (λ (n : ℕ). SaysOn mid.state new.state n new.replied) f.replied h.replied);
   why = h.why;
-  ends = h.ends;
-  leaves = leaves_behind result old mid new s s' f h.leaves;
+  ends = subst (λ (x : Ending). TurnEnds x.late new.why s s') f.ending h.ends;
+  leaves = leaves_behind now result old mid new s s' f h.leaves;
 }
 
 -- memory was refused before a write
@@ -80,7 +84,7 @@ unwritten old new s w = record {
   calls = w.calls;
   replied = subst (λ (x : State). SaysOn old.state x old.replied new.replied) (sym w.state) tt;
   why = subst IsOfFlush (sym w.why) tt;
-  ends = subst (λ (x : Option Why). TurnEnds x s s) (sym w.why) refl;
+  ends = subst (λ (x : Option Why). TurnEnds old.ending.late x s s) (sym w.why) refl;
   leaves = w.state;
 }
 
@@ -106,8 +110,8 @@ wrote_once a old new s s' ring front writes one ahead same calls behind = record
 }
 
 -- nor of how a write went
-still_behind : (old mid new : Shown) (rest left : List ℕ) → rest ≡ left → Fills old mid → StillOwes rest mid new → StillOwes left old new
-still_behind old mid new rest left e f h = record {
+still_behind : (now : ℕ) (old mid new : Shown) (rest left : List ℕ) → rest ≡ left → Fills now old mid → StillOwes rest mid new → StillOwes left old new
+still_behind now old mid new rest left e f h = record {
   some = λ none. h.some (e ∙ none);
   owed = h.owed ∙ e;
   state = h.state ∙ f.state;
@@ -118,60 +122,59 @@ still_behind old mid new rest left e f h = record {
   sure = λ sure. h.sure (inl (f.sure sure));
 }
 
-kept_behind : (x : State) (w : Option Why) (old mid new : Shown) → Fills old mid → KeptTo x w mid new → KeptTo x w old new
-kept_behind state.Reading w old mid new f h = (h.0, h.1 ∙ ap (λ (n : ℕ). n + 1) f.replied, h.2)
-kept_behind state.Ready w old mid new f h = (h.0, h.1 ∙ ap (λ (n : ℕ). n + 1) f.replied, h.2)
-kept_behind state.Answering w old mid new f h = absurd h
-kept_behind state.Hijacked w old mid new f h = absurd h
-kept_behind state.Over w old mid new f h = (h.0, subst (λ (x : List ℕ). LacksRightly [] x) f.held h.1)
+kept_behind : (now : ℕ) (x : State) (w : Option Why) (old mid new : Shown) → Fills now old mid → KeptTo x w mid new → KeptTo x w old new
+kept_behind now state.Reading w old mid new f h = (h.0, h.1 ∙ ap (λ (n : ℕ). n + 1) f.replied, h.2)
+kept_behind now state.Ready w old mid new f h = (h.0, h.1 ∙ ap (λ (n : ℕ). n + 1) f.replied, h.2)
+kept_behind now state.Answering w old mid new f h = absurd h
+kept_behind now state.Hijacked w old mid new f h = absurd h
+kept_behind now state.Over w old mid new f h = (h.0, subst (λ (x : List ℕ). LacksRightly [] x) f.held h.1)
 
-sent_behind : (x : State) (a : After) (old mid new : Shown) → Fills old mid → SentTo x a mid new → SentTo x a old new
-sent_behind state.Answering Keep old mid new f h = kept_behind new.state new.why old mid new f h
-sent_behind state.Answering Close old mid new f h = h
-sent_behind state.Answering Hijack old mid new f h = (h.0, λ held. h.1 held ∙ ap (λ (n : ℕ). n + 1) f.replied)
-sent_behind state.Hijacked Keep old mid new f h = (h.0, h.1, h.2 ∙ f.replied, h.3)
-sent_behind state.Hijacked Close old mid new f h = h
-sent_behind state.Hijacked Hijack old mid new f h = absurd h
-sent_behind state.Reading a old mid new f h = absurd h
-sent_behind state.Ready a old mid new f h = absurd h
-sent_behind state.Over a old mid new f h = absurd h
+sent_behind : (now : ℕ) (x : State) (a : After) (old mid new : Shown) → Fills now old mid → SentTo x a mid new → SentTo x a old new
+sent_behind now state.Answering Keep old mid new f h = kept_behind now new.state new.why old mid new f h
+sent_behind now state.Answering Close old mid new f h = (h.0, h.1 ∙ ap (λ (x : Ending). Some (ended_by x.late)) f.ending)
+sent_behind now state.Answering Hijack old mid new f h = (h.0, λ held. h.1 held ∙ ap (λ (n : ℕ). n + 1) f.replied)
+sent_behind now state.Hijacked Keep old mid new f h = (h.0, h.1, h.2 ∙ f.replied, h.3)
+sent_behind now state.Hijacked Close old mid new f h = h
+sent_behind now state.Hijacked Hijack old mid new f h = absurd h
+sent_behind now state.Reading a old mid new f h = absurd h
+sent_behind now state.Ready a old mid new f h = absurd h
+sent_behind now state.Over a old mid new f h = absurd h
 
-behind_same : (a : LinkWrite) (old mid new : Shown) → Fills old mid → BehindWrite a mid new → BehindWrite a old new
-behind_same (write.Took n) old mid new f h =
+behind_same : (now : ℕ) (a : LinkWrite) (old mid new : Shown) → Fills now old mid → BehindWrite a mid new → BehindWrite a old new
+behind_same now (write.Took n) old mid new f h =
     let left : drop n mid.owed ≡ drop n old.owed = ap (λ (x : List ℕ). drop n x) f.owed in
     elim h [
-      | inl still ↦ inl (still_behind old mid new (drop n mid.owed) (drop n old.owed) left f still)
+      | inl still ↦ inl (still_behind now old mid new (drop n mid.owed) (drop n old.owed) left f still)
       | inr sent ↦ inr (
         sym left ∙ sent.0,
         subst (λ (x : State). SentTo x old.after old new) f.state
-            (subst (λ (x : After). SentTo mid.state x old new) f.after (sent_behind mid.state mid.after old mid new f sent.1)),
+            (subst (λ (x : After). SentTo mid.state x old new) f.after (sent_behind now mid.state mid.after old mid new f sent.1)),
       )
     ]
-behind_same write.NotYet old mid new f h = still_behind old mid new mid.owed old.owed f.owed f h
-behind_same write.Failed old mid new f h = h
-behind_same write.NoMemory old mid new f h = h
+behind_same now write.NotYet old mid new f h = still_behind now old mid new mid.owed old.owed f.owed f h
+behind_same now write.Failed old mid new f h = h
+behind_same now write.NoMemory old mid new f h = h
 
-write_behind : (a : LinkWrite) (old mid new : Shown) (s s' : Seen) → Fills old mid → WritesOnce a mid new s s' → WritesOnce a old new s s'
-write_behind a old mid new s s' f h = record {
+write_behind : (now : ℕ) (a : LinkWrite) (old mid new : Shown) (s s' : Seen) → Fills now old mid → WritesOnce a mid new s s' → WritesOnce a old new s s'
+write_behind now a old mid new s s' f h = record {
   offers = subst (λ (x : List ℕ). Writes a (take ring_room x) s s') f.owed h.offers;
   one = h.one;
   ahead = subst (λ (x : List ℕ). WritesAhead a (take ring_room x) s.ahead (next_place s) s'.ahead) f.owed h.ahead;
   same = same_then old mid new f.same h.same;
   calls = h.calls ∙ f.calls;
-  behind = behind_same a old mid new f h.behind;
+  behind = behind_same now a old mid new f h.behind;
 }
 
--- a reply for which memory is wanted behind the fill wanted it before
-unsure : (old new : Bool) → (old ≡ true → new ≡ true) → new ≡ false → old ≡ false
-unsure true new h e = let t : new ≡ true = h refl in cc
-unsure false new h e = refl
+-- nor of what a write does
+pub once_behind : (now : ℕ) (result : Said) (old mid new : Shown) (s s' : Seen) → result ≢ said.Unwritten → Fills now old mid → no_bytes mid.ring ≡ false
+    → SaysOnce now result mid new s s' → SaysOnce now result old new s s'
+once_behind now said.Unwritten old mid new s s' not f some h = absurd (not refl)
+once_behind now said.Wrote old mid new s s' not f some h =
+    (h.0, h.1, write_behind now h.0 old mid new s s' f h.2, keeps_behind now h.0 old mid new f some h.3)
+once_behind now said.Waits old mid new s s' not f some h =
+    (write_behind now write.NotYet old mid new s s' f h.0, keeps_behind now write.NotYet old mid new f some h.1)
 
-pub once_behind : (result : Said) (old mid new : Shown) (s s' : Seen) → Fills old mid → SaysOnce result mid new s s' → SaysOnce result old new s s'
-once_behind said.Unwritten old mid new s s' f h = (
-  h.0,
-  sym f.state ∙ h.1,
-  unsure old.sure mid.sure (λ sure. f.sure (inl sure)) h.2,
-  record { same = same_then old mid new f.same h.3.same; calls = h.3.calls ∙ f.calls; state = h.3.state; why = h.3.why },
-)
-once_behind said.Wrote old mid new s s' f h = (h.0, h.1, write_behind h.0 old mid new s s' f h.2)
-once_behind said.Waits old mid new s s' f h = write_behind write.NotYet old mid new s s' f h
+pub says_ending : (now : ℕ) (result : Said) (old new : Shown) (s s' : Seen) → SaysOnce now result old new s s' → new.ending ≡ old.ending
+says_ending now said.Unwritten old new s s' h = h.4.ending
+says_ending now said.Wrote old new s s' h = h.3.ending
+says_ending now said.Waits old new s s' h = h.1.ending

@@ -58,7 +58,7 @@ moved_by_read old new s s' came peer local lives one given taken =
 pub record FedShown {B H : Type 0} (a : At B H) (calls : ℕ) (s s' : Seen) : Type 0 where
   pub replied : replied_at a calls ≡ calls
   pub why : IsOfFeed (why_at a)
-  pub ends : TurnEnds (why_at a) s s'
+  pub ends : TurnEnds None (why_at a) s s'
   pub state : IsFed (state_at a)
 
 pub fed_shown : {B H : Type 0} (a : At B H) (calls : ℕ) (s s' : Seen) (old new : Intake) (held left : List ℕ) → s'.over ≡ s.over

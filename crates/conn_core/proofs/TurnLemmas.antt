@@ -1,6 +1,7 @@
 -- What the steps of a turn leave, and what a turn did so far.
-use Rattle.std.proofs.Common.{◌≡◌, ◌≢◌, ◌↔◌, ℕ, ◌+◌, ◌-◌, ◌<◌, ◌≤◌, Bool, true, false, IsTrue, List, [], ◌∷◌, length, refl, sym, ap, subst, ◌∙◌, arith, Option, None, ◌⊎◌, inl, inr, ltb}
-use Rattle.std.proofs.lemmas.Bool.Decides.{Decides-ltb}
+use Rattle.std.proofs.Common.{◌≡◌, ◌≢◌, ◌↔◌, ℕ, ◌+◌, ◌-◌, ◌<◌, ◌≤◌, Bool, true, false, IsTrue, List, [], ◌∷◌, length, refl, sym, ap, subst, ◌∙◌, arith, Option, None, Some, ◌⊎◌, inl, inr, ltb}
+use Rattle.std.specs.Prelude.{◌==◌, ◌||◌}
+use Rattle.std.proofs.lemmas.Bool.Decides.{Decides-ltb, nat_tests}
 use Rattle.rack_outside.specs.Link.{Seen}
 use Rattle.rack_outside.specs.Told.{Rose}
 use Rattle.rack_outside.specs.declared.link.LinkRead.{LinkRead}
@@ -15,11 +16,13 @@ use Rattle.message_framing.specs.declared.intake.Intake.{Intake}
 use Rattle.reply_framing.specs.Reply.{reply}
 use Rattle.talk_core.specs.Counts.{counted_by}
 use Rattle.talk_core.specs.declared.ended.Why.{Why}
-use Rattle.talk_core.specs.Teller.{Stack, Teller, ask_of, is_last}
+use Rattle.talk_core.specs.Teller.{Stack, Teller, reply_of, ask_of, is_last}
 use Rattle.conn_core.specs.declared.left.Left.{Left}
 use Rattle.conn_core.specs.declared.left.Said.{Said}
 use Rattle.conn_core.specs.declared.left.Step.{Step}
 use Rattle.conn_core.specs.declared.left.Step.TheVariants as step
+use Rattle.conn_core.specs.declared.moments.Ending.{Ending}
+use Rattle.conn_core.specs.declared.moments.Late.{Late}
 use Rattle.conn_core.specs.declared.place.At.{At}
 use Rattle.conn_core.specs.declared.place.At.TheVariants as at
 use Rattle.conn_core.specs.declared.state.Next.{Next}
@@ -28,14 +31,16 @@ use Rattle.conn_core.specs.declared.state.State.{State}
 use Rattle.conn_core.specs.declared.state.State.TheVariants as state
 use Rattle.conn_core.specs.Answers.{TurnedSo}
 use Rattle.conn_core.specs.Calls.{TurnEnds, RestsBehind, IsSpent, IsHandedOver, TurnTells, Turns}
-use Rattle.conn_core.specs.Inner.{IsFed, ReadLeaves, ReadsBy, TakesUp, TellsBy, writes_of, HijackedOn, SaysOn, Says, Steps, IsSpentLeft, StepLeaves}
+use Rattle.conn_core.specs.Keeps.{Drains, DrainsOnce}
+use Rattle.conn_core.specs.Inner.{IsFed, ReadLeaves, ReadsBy, TakesUp, TellsBy, TellsFrom, writes_of, HijackedOn, SaysOn, Says, Steps, IsSpentLeft, StepLeaves}
 use Rattle.conn_core.specs.Moves.{SameShown, StartsAs, IsOwing}
 use Rattle.conn_core.specs.Place.{IsSaying, IsHearing, state_at}
 use Rattle.conn_core.specs.Rests.{RestsAt}
 use Rattle.conn_core.specs.Shown.{Shown, Moved, replied_at, why_at}
 use Rattle.conn_core.proofs.ShownLemmas.{counted_sum}
 use Rattle.conn_core.proofs.MovingLemmas.{full, TurnMade}
-use Rattle.conn_core.proofs.MovedLemmas.{counted_lists, moved_same, moved_by, moved_then, ends_then}
+use Rattle.conn_core.proofs.MovedLemmas.{counted_lists, moved_same, moved_by, moved_then, ends_then, drains_then, drains_same, drains_run}
+use Rattle.conn_core.proofs.PlaceLemmas.{unclosed, untimed}
 
 -- a place that isn't Over names no why
 pub no_why : {B H : Type 0} (a : At B H) → state_at a ≢ state.Over → why_at a ≡ None
@@ -82,19 +87,19 @@ IsBelow state.Answering n = Unit
 IsBelow state.Hijacked n = Unit
 IsBelow state.Over n = Unit
 
-pub is_below : {B H : Type 0} (a : At B H) (intake : Intake) (held ring : List ℕ) (calls : ℕ) → RestsAt a intake held ring calls
+pub is_below : {B H : Type 0} (a : At B H) (intake : Intake) (held ring : List ℕ) (calls : ℕ) (m : Ending) → RestsAt a intake held ring calls m
     → IsBelow (state_at a) (replied_at a calls)
-is_below {B} {H} at.Reading intake held ring calls h = h.1.1
-is_below {B} {H} at.Asked intake held ring calls h = h.1.0
-is_below {B} {H} (at.Refused f) intake held ring calls h = h.1
-is_below {B} {H} (at.Answering f) intake held ring calls h = tt
-is_below {B} {H} (at.Writing keeps) intake held ring calls h = tt
-is_below {B} {H} (at.Handing x) intake held ring calls h = tt
-is_below {B} {H} at.Refusing intake held ring calls h = tt
-is_below {B} {H} (at.Taken x) intake held ring calls h = tt
-is_below {B} {H} (at.Speaking x) intake held ring calls h = tt
-is_below {B} {H} at.Parting intake held ring calls h = tt
-is_below {B} {H} (at.Over w) intake held ring calls h = tt
+is_below {B} {H} at.Reading intake held ring calls m h = h.1.1.0
+is_below {B} {H} at.Asked intake held ring calls m h = h.1.0
+is_below {B} {H} (at.Refused f) intake held ring calls m h = h.1.0
+is_below {B} {H} (at.Answering f) intake held ring calls m h = tt
+is_below {B} {H} (at.Writing keeps) intake held ring calls m h = tt
+is_below {B} {H} (at.Handing x) intake held ring calls m h = tt
+is_below {B} {H} at.Refusing intake held ring calls m h = tt
+is_below {B} {H} (at.Taken x) intake held ring calls m h = tt
+is_below {B} {H} (at.Speaking x) intake held ring calls m h = tt
+is_below {B} {H} at.Parting intake held ring calls m h = tt
+is_below {B} {H} (at.Over w) intake held ring calls m h = tt
 
 -- behind a read it rests as before it
 fed_rests : (b : State) (n r q : ℕ) → IsFed b → q ≡ r → RestsBehind state.Reading n r → RestsBehind b n q
@@ -125,20 +130,20 @@ starts_rests state.Answering w k o n h few = omega (arith, h.1, few)
 starts_rests state.Hijacked w k o n h few = omega (arith, h.1, few)
 starts_rests state.Over w k o n h few = tt
 
-starts_ends : (b : State) (w : Option Why) (o n : Shown) (s : Seen) → StartsAs b w o n → TurnEnds w s s
+starts_ends : (b : State) (w : Option Why) (o n : Shown) (s : Seen) → StartsAs b w o n → TurnEnds None w s s
 starts_ends state.Reading w o n s h = absurd h
 starts_ends state.Ready w o n s h = absurd h
-starts_ends state.Answering w o n s h = subst (λ (x : Option Why). TurnEnds x s s) (sym h.0) refl
-starts_ends state.Hijacked w o n s h = subst (λ (x : Option Why). TurnEnds x s s) (sym h.0) refl
+starts_ends state.Answering w o n s h = subst (λ (x : Option Why). TurnEnds None x s s) (sym h.0) refl
+starts_ends state.Hijacked w o n s h = subst (λ (x : Option Why). TurnEnds None x s s) (sym h.0) refl
 starts_ends state.Over w o n s h =
     elim h [
-      | inl e ↦ subst (λ (x : Option Why). TurnEnds x s s) (sym e) refl
-      | inr e ↦ subst (λ (x : Option Why). TurnEnds x s s) (sym e) refl
+      | inl e ↦ subst (λ (x : Option Why). TurnEnds None x s s) (sym e) refl
+      | inr e ↦ subst (λ (x : Option Why). TurnEnds None x s s) (sym e) refl
     ]
 
 -- behind what was taken up
-takes_rests : (runs k : ℕ) (o n : Shown) → TakesUp runs o n → k ≤ o.replied → RestsBehind n.state k n.replied
-takes_rests runs k o n h few =
+takes_rests : (now runs k : ℕ) (o n : Shown) → TakesUp now runs o n → k ≤ o.replied → RestsBehind n.state k n.replied
+takes_rests now runs k o n h few =
     elim h [
       | inl run ↦ starts_rests n.state n.why k o n run.2.place few
       | inr none ↦ elim none.1 [
@@ -149,21 +154,21 @@ takes_rests runs k o n h few =
       ]
     ]
 
-takes_ends : (runs : ℕ) (o n : Shown) (s : Seen) → TakesUp runs o n → TurnEnds n.why s s
-takes_ends runs o n s h =
+takes_ends : (now runs : ℕ) (o n : Shown) (s : Seen) → TakesUp now runs o n → TurnEnds None n.why s s
+takes_ends now runs o n s h =
     elim h [
       | inl run ↦ starts_ends n.state n.why o n s run.2.place
       | inr none ↦ elim none.1 [
-        | inl names ↦ subst (λ (x : Option Why). TurnEnds x s s) (sym names.2.why) refl
-        | inr wants ↦ subst (λ (x : Option Why). TurnEnds x s s) (sym wants.1.why) refl
+        | inl names ↦ subst (λ (x : Option Why). TurnEnds None x s s) (sym names.2.why) refl
+        | inr wants ↦ subst (λ (x : Option Why). TurnEnds None x s s) (sym wants.1.why) refl
       ]
     ]
 
-takes_same : (runs : ℕ) (o n : Shown) → TakesUp runs o n → SameShown o n
-takes_same runs o n h = elim h [ inl run ↦ run.2.same | inr none ↦ elim none.1 [ inl names ↦ names.2.same | inr wants ↦ wants.1.same ] ]
+takes_same : (now runs : ℕ) (o n : Shown) → TakesUp now runs o n → SameShown o n
+takes_same now runs o n h = elim h [ inl run ↦ run.2.same | inr none ↦ elim none.1 [ inl names ↦ names.2.same | inr wants ↦ wants.1.same ] ]
 
-takes_calls : (runs : ℕ) (o n : Shown) → TakesUp runs o n → n.calls ≡ o.calls + runs
-takes_calls runs o n h =
+takes_calls : (now runs : ℕ) (o n : Shown) → TakesUp now runs o n → n.calls ≡ o.calls + runs
+takes_calls now runs o n h =
     elim h [
       | inl run ↦ omega (arith, run.0, run.2.calls)
       | inr none ↦ elim none.1 [
@@ -171,6 +176,28 @@ takes_calls runs o n h =
         | inr wants ↦ omega (arith, none.0, wants.1.calls)
       ]
     ]
+
+takes_drains : (now runs : ℕ) (o n : Shown) → TakesUp now runs o n → o.ending.closing ≡ None → Drains o n
+takes_drains now runs o n h none =
+    elim h [
+      | inl run ↦ drains_run o n run.2.calls run.3.ending none
+      | inr other ↦ elim other.1 [ inl names ↦ drains_same o n names.3.ending | inr wants ↦ drains_same o n wants.2.ending ]
+    ]
+
+-- nothing ends the connection where a request or a refusal stands
+pub ready_unended : {B H : Type 0} (a : At B H) (intake : Intake) (held ring : List ℕ) (calls : ℕ) (m : Ending) → RestsAt a intake held ring calls m
+    → state_at a ≡ state.Ready → (m.closing ≡ None) × (m.late ≡ None)
+ready_unended {B} {H} at.Reading intake held ring calls m h e = cc
+ready_unended {B} {H} at.Asked intake held ring calls m h e = (unclosed m h.1.1.1, untimed m h.1.1.1)
+ready_unended {B} {H} (at.Refused f) intake held ring calls m h e = (unclosed m h.1.1, untimed m h.1.1)
+ready_unended {B} {H} (at.Answering f) intake held ring calls m h e = cc
+ready_unended {B} {H} (at.Writing keeps) intake held ring calls m h e = cc
+ready_unended {B} {H} (at.Handing x) intake held ring calls m h e = cc
+ready_unended {B} {H} at.Refusing intake held ring calls m h e = cc
+ready_unended {B} {H} (at.Taken x) intake held ring calls m h e = cc
+ready_unended {B} {H} (at.Speaking x) intake held ring calls m h e = cc
+ready_unended {B} {H} at.Parting intake held ring calls m h e = cc
+ready_unended {B} {H} (at.Over w) intake held ring calls m h e = cc
 
 -- where a hijacker has it behind a write, more replies were sent whole, or it had it before
 held_rests : (a : State) (n r q : ℕ) → HijackedOn a r q → RestsBehind a n r → n < q
@@ -220,14 +247,15 @@ stays o s l =
       calls = refl;
       few = (few, fewer, fewest);
       replied = λ n h. h;
-      ends = λ first reads writes h. h;
+      drains = drains_same o o refl;
+      ends = λ late first reads writes h. h;
     }
 
 -- one that read
 pub read_steps : (a : LinkRead) (o n : Shown) (s u : Seen) (l : Left) (came : ℕ) (h : ReadsBy a o n s u)
     → came ≡ counted_by (length h.moved.came) l.came → 0 < l.reads → o.state ≡ state.Reading → o.why ≡ None
-    → Steps o n s u l (record { runs = l.runs; reads = l.reads - 1; writes = l.writes; came = came })
-read_steps a o n s u l came h is some reading none =
+    → n.ending ≡ o.ending → Steps o n s u l (record { runs = l.runs; reads = l.reads - 1; writes = l.writes; came = came })
+read_steps a o n s u l came h is some reading none ending =
     let one : 1 ≡ l.reads - (l.reads - 1) = omega (arith, some) in
     let nothing : 0 ≡ l.writes - l.writes = omega arith in
     let few : l.runs ≤ l.runs = omega arith in
@@ -240,37 +268,39 @@ read_steps a o n s u l came h is some reading none =
       few = (few, fewer, fewest);
       replied = λ k x. fed_rests n.state k o.replied n.replied (read_fed a n h.moved.came s u h.leaves) h.replied
           (subst (λ (b : State). RestsBehind b k o.replied) reading x);
-      ends = λ first reads writes x. ends_then o.why n.why first s u none reads writes h.ends x;
+      drains = drains_same o n ending;
+      ends = λ late first reads writes x. ends_then None o.why n.why first s u none reads writes h.ends x;
     }
 
 -- one that took up a request or a refusal
-pub start_steps : (o n : Shown) (s : Seen) (l m : Left) → TakesUp (l.runs - m.runs) o n → m ≡ record l { runs = m.runs } → m.runs ≤ l.runs
-    → o.state ≡ state.Ready → o.why ≡ None → Steps o n s s l m
-start_steps o n s l m h is few ready none =
+pub start_steps : (now : ℕ) (o n : Shown) (s : Seen) (l m : Left) → TakesUp now (l.runs - m.runs) o n → m ≡ record l { runs = m.runs } → m.runs ≤ l.runs
+    → o.state ≡ state.Ready → o.why ≡ None → o.ending.closing ≡ None → Steps o n s s l m
+start_steps now o n s l m h is few ready none unclosing =
     let same_reads : m.reads ≡ l.reads = ap (λ (x : Left). x.reads) is in
     let same_writes : m.writes ≡ l.writes = ap (λ (x : Left). x.writes) is in
     let reads : l.reads - m.reads ≡ 0 = omega (arith, same_reads) in
     let writes : l.writes - m.writes ≡ 0 = omega (arith, same_writes) in
     let fewer : m.reads ≤ l.reads = omega (arith, same_reads) in
     let fewest : m.writes ≤ l.writes = omega (arith, same_writes) in
-    let calls : n.calls + m.runs ≡ o.calls + l.runs = omega (arith, takes_calls (l.runs - m.runs) o n h, few) in
+    let calls : n.calls + m.runs ≡ o.calls + l.runs = omega (arith, takes_calls now (l.runs - m.runs) o n h, few) in
     record {
-      moved = moved_same o n s (l.reads - m.reads) (l.writes - m.writes) (takes_same (l.runs - m.runs) o n h) reads writes;
+      moved = moved_same o n s (l.reads - m.reads) (l.writes - m.writes) (takes_same now (l.runs - m.runs) o n h) reads writes;
       came = ap (λ (x : Left). x.came) is;
       calls = calls;
       few = (few, fewer, fewest);
       replied = λ k x.
           let below : k < o.replied = (subst (λ (b : State). RestsBehind b k o.replied) ready x).0 in
           let within : k ≤ o.replied = omega (arith, below) in
-          takes_rests (l.runs - m.runs) k o n h within;
-      ends = λ first reads writes x. ends_then o.why n.why first s s none reads writes (takes_ends (l.runs - m.runs) o n s h) x;
+          takes_rests now (l.runs - m.runs) k o n h within;
+      drains = takes_drains now (l.runs - m.runs) o n h unclosing;
+      ends = λ late first reads writes x. ends_then None o.why n.why first s s none reads writes (takes_ends now (l.runs - m.runs) o n s h) x;
     }
 
 -- one that said
 pub say_steps : (a : Said) (o n : Shown) (s u : Seen) (l : Left) (writes : ℕ) → Says a o n s u → writes + writes_of a ≡ l.writes
-    → o.why ≡ None → IsBelow n.state n.replied
+    → o.why ≡ None → IsBelow n.state n.replied → n.ending ≡ o.ending
     → Steps o n s u l (record { runs = l.runs; reads = l.reads; writes = writes; came = l.came })
-say_steps a o n s u l writes h is none below =
+say_steps a o n s u l writes h is none below ending =
     let nothing : 0 ≡ l.reads - l.reads = omega arith in
     let one : writes_of a ≡ l.writes - writes = omega (arith, is) in
     let few : l.runs ≤ l.runs = omega arith in
@@ -282,7 +312,8 @@ say_steps a o n s u l writes h is none below =
       calls = ap (λ k. k + l.runs) h.calls;
       few = (few, fewer, fewest);
       replied = λ k x. says_rests o.state n.state k o.replied n.replied h.replied below x;
-      ends = λ first reads writes x. ends_then o.why n.why first s u none reads writes h.ends x;
+      drains = drains_same o n ending;
+      ends = λ late first reads writes x. ends_then None o.why n.why first s u none reads writes (subst (λ (y : Option Late). TurnEnds y n.why s u) late h.ends) x;
     }
 
 -- what a turn did so far, of which this is left
@@ -292,12 +323,13 @@ pub record Turning (old new : Shown) (s s' : Seen) (l : Left) : Type 0 where
   pub calls : new.calls + l.runs ≡ old.calls + 10
   pub few : (l.runs ≤ 10) × (l.reads ≤ 160) × (l.writes ≤ 160)
   pub rests : RestsBehind new.state old.replied new.replied
-  pub ends : TurnEnds new.why s s'
+  pub drains : Drains old new
+  pub ends : TurnEnds None new.why s s'
 
 -- its first part
-pub turning_start : (o n : Shown) (s : Seen) (f l : Left) → f ≡ full → TakesUp (f.runs - l.runs) o n → l ≡ record f { runs = l.runs }
-    → l.runs ≤ f.runs → Turning o n s s l
-turning_start o n s f l all h is few =
+pub turning_start : (now : ℕ) (o n : Shown) (s : Seen) (f l : Left) → f ≡ full → TakesUp now (f.runs - l.runs) o n → l ≡ record f { runs = l.runs }
+    → l.runs ≤ f.runs → o.ending.closing ≡ None → Turning o n s s l
+turning_start now o n s f l all h is few unclosing =
     let ten : f.runs ≡ 10 = ap (λ (x : Left). x.runs) all in
     let same_reads : l.reads ≡ 160 = ap (λ (x : Left). x.reads) is ∙ ap (λ (x : Left). x.reads) all in
     let same_writes : l.writes ≡ 160 = ap (λ (x : Left). x.writes) is ∙ ap (λ (x : Left). x.writes) all in
@@ -306,26 +338,29 @@ turning_start o n s f l all h is few =
     let fewest : l.runs ≤ 10 = omega (arith, ten, few) in
     let fewer_reads : l.reads ≤ 160 = omega (arith, same_reads) in
     let fewer_writes : l.writes ≤ 160 = omega (arith, same_writes) in
-    let calls : n.calls + l.runs ≡ o.calls + 10 = omega (arith, takes_calls (f.runs - l.runs) o n h, ten, few) in
+    let calls : n.calls + l.runs ≡ o.calls + 10 = omega (arith, takes_calls now (f.runs - l.runs) o n h, ten, few) in
     let within : o.replied ≤ o.replied = omega arith in
     record {
-      moved = moved_same o n s (160 - l.reads) (160 - l.writes) (takes_same (f.runs - l.runs) o n h) reads writes;
+      moved = moved_same o n s (160 - l.reads) (160 - l.writes) (takes_same now (f.runs - l.runs) o n h) reads writes;
       came = ap (λ (x : Left). x.came) is ∙ ap (λ (x : Left). x.came) all;
       calls = calls;
       few = (fewest, fewer_reads, fewer_writes);
-      rests = takes_rests (f.runs - l.runs) o.replied o n h within;
-      ends = takes_ends (f.runs - l.runs) o n s h;
+      rests = takes_rests now (f.runs - l.runs) o.replied o n h within;
+      drains = takes_drains now (f.runs - l.runs) o n h unclosing;
+      ends = takes_ends now (f.runs - l.runs) o n s h;
     }
 
 -- and a step
-pub turning_step : (o m n : Shown) (s t u : Seen) (l k : Left) → Turning o m s t l → Steps m n t u l k → Turning o n s u k
-turning_step o m n s t u l k h p =
+pub turning_step : (o m n : Shown) (s t u : Seen) (l k : Left) → o.ending.late ≡ None → Turning o m s t l → Steps m n t u l k → Turning o n s u k
+turning_step o m n s t u l k late h p =
     let reads : (160 - l.reads) + (l.reads - k.reads) ≡ 160 - k.reads = omega (arith, h.few.1, p.few.1) in
     let writes : (160 - l.writes) + (l.writes - k.writes) ≡ 160 - k.writes = omega (arith, h.few.2, p.few.2) in
     let few : k.runs ≤ 10 = omega (arith, h.few.0, p.few.0) in
     let fewer : k.reads ≤ 160 = omega (arith, h.few.1, p.few.1) in
     let fewest : k.writes ≤ 160 = omega (arith, h.few.2, p.few.2) in
     let calls : n.calls + k.runs ≡ o.calls + 10 = omega (arith, h.calls, p.calls) in
+    let more : m.calls ≤ n.calls = omega (arith, p.calls, p.few.0) in
+    let before : o.calls ≤ m.calls = omega (arith, h.calls, h.few.0) in
     record {
       moved = moved_then o m n s t u (160 - l.reads) (160 - l.writes) (l.reads - k.reads) (l.writes - k.writes) (160 - k.reads) (160 - k.writes)
           reads writes h.moved p.moved;
@@ -333,7 +368,8 @@ turning_step o m n s t u l k h p =
       calls = calls;
       few = (few, fewer, fewest);
       rests = p.replied o.replied h.rests;
-      ends = p.ends s h.moved.failed_reads h.moved.failed_writes h.ends;
+      drains = drains_then o m n more before h.drains p.drains;
+      ends = p.ends (h.drains.late ∙ late) s h.moved.failed_reads h.moved.failed_writes h.ends;
     }
 
 -- how many runs, reads and writes were made is told by how many are left
@@ -411,9 +447,9 @@ module _ {B H : Type 0} (a : At B H) (o n : Shown) (s u : Seen) (l : Left) (more
   turn_tells next.Over f = is ∙ f
 
   -- and its end
-  pub turning_end : (result : Next) → TurnedSo result a l more → TurnMade o n s u (10 - l.runs) (160 - l.reads) (160 - l.writes)
-      → Turns result o n s u
-  turning_end result f made =
+  pub turning_end : (now : ℕ) (result : Next) → TurnedSo result a l more → TurnMade now o n s u (10 - l.runs) (160 - l.reads) (160 - l.writes)
+      → Turns now result o n s u
+  turning_end now result f made =
       let runs : 10 - l.runs ≤ 10 = omega arith in
       let reads : 160 - l.reads ≤ 160 = omega arith in
       let writes : 160 - l.writes ≤ 160 = omega arith in
@@ -430,6 +466,7 @@ module _ {B H : Type 0} (a : At B H) (o n : Shown) (s u : Seen) (l : Left) (more
         moved = h.moved;
         calls = calls;
         rests = h.rests;
+        drains = h.drains;
         ends = h.ends;
         tells = turn_tells result f;
       }
@@ -453,10 +490,40 @@ risen b n x y e f =
     let d = Decides-ltb b n in
     (λ t. let k : b < n = d.0 t in omega (arith, k, e, f), λ h. let k : b < n = omega (arith, h, e, f) in d.1 k)
 
--- the same replies, where the answers are the same
-pub tells_same : {H : Type 0} (T : Teller H) (a b : Stack H) (l k : Local) (p q : List ℕ) → ((ps : Pairs) (input : List ℕ) → b ps input ≡ a ps input)
-    → k ≡ l → q ≡ p → TellsBy T a l p → TellsBy T b k q
-tells_same {H} T a b l k p q same local peer h =
-    subst (λ (x : Local). TellsBy T b x q) (sym local)
-    (subst (λ (x : List ℕ). TellsBy T b l x) (sym peer)
-    (λ i r. h i r ∙ ap (λ (x : Answer Content H). reply (ask_of r) (env_pairs r p l) x (is_last None i)) (sym (same (env_pairs r p l) r.body))))
+-- the same reply, where the answers are the same
+tells_as : {H : Type 0} (T : Teller H) (a b : Stack H) (l k : Local) (p q : List ℕ) (closing : Option ℕ) (i : ℕ)
+    → ((ps : Pairs) (input : List ℕ) → b ps input ≡ a ps input) → k ≡ l → q ≡ p → TellsBy T a l p closing i → TellsBy T b k q closing i
+tells_as {H} T a b l k p q closing i same local peer h =
+    subst (λ (x : Local). TellsBy T b x q closing i) (sym local)
+    (subst (λ (x : List ℕ). TellsBy T b l x closing i) (sym peer)
+    (λ r. h r ∙ ap (λ (x : Answer Content H). reply (ask_of r) (env_pairs r p l) x (is_last closing i)) (sym (same (env_pairs r p l) r.body))))
+
+-- of the requests that were run in a step
+pub tells_step : {H : Type 0} (T : Teller H) (a b : Stack H) (l k : Local) (p q : List ℕ) (closing : Option ℕ) (first mid end : ℕ)
+    → ((ps : Pairs) (input : List ℕ) → b ps input ≡ a ps input) → k ≡ l → q ≡ p → first ≤ mid → TellsFrom T a l p closing first end
+    → TellsFrom T b k q closing mid end
+tells_step {H} T a b l k p q closing first mid end same local peer more h i from below =
+    let few : first ≤ i = omega (arith, more, from) in tells_as T a b l k p q closing i same local peer (h i few below)
+
+-- of those that were run before it: the reply that closes by draining is behind them
+not_yet : (k i : ℕ) → i < k → is_last (Some k) i ≡ is_last None i
+not_yet k i below = ap (λ (b : Bool). (i == 9999) || b) (differs i k below)
+  where
+    differs : (n m : ℕ) → n < m → (n == m) ≡ false
+    differs n m lt = grind (arith, nat_tests, lt)
+
+last_before : (o n : Shown) (i : ℕ) → i < o.calls → (n.ending.closing ≡ o.ending.closing) ⊎ DrainsOnce o n
+    → is_last n.ending.closing i ≡ is_last o.ending.closing i
+last_before o n i below e =
+    elim e [
+      | inl same ↦ ap (λ (c : Option ℕ). is_last c i) same
+      | inr once ↦
+          let few : i < once.0 = omega (arith, below, once.4) in
+          ap (λ (c : Option ℕ). is_last c i) once.3 ∙ not_yet once.0 i few ∙ sym (ap (λ (c : Option ℕ). is_last c i) once.2)
+    ]
+
+pub tells_before : {H : Type 0} (T : Teller H) (a : Stack H) (l : Local) (p : List ℕ) (first : ℕ) (o n : Shown) → Drains o n → o.calls ≤ n.calls
+    → TellsFrom T a l p n.ending.closing first n.calls → TellsFrom T a l p o.ending.closing first o.calls
+tells_before {H} T a l p first o n drains more h i from below r =
+    let few : i < n.calls = omega (arith, below, more) in
+    h i from few r ∙ ap (λ (b : Bool). reply_of a (env_pairs r p l) r b) (last_before o n i below drains.closing)

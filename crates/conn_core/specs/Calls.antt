@@ -6,28 +6,31 @@ use Rattle.rack_outside.specs.declared.link.LinkRead.{LinkRead}
 use Rattle.rack_outside.specs.declared.link.LinkRead.TheVariants as read
 use Rattle.talk_core.specs.declared.ended.Why.{Why}
 use Rattle.talk_core.specs.declared.ended.Why.TheVariants as why
+use Rattle.conn_core.specs.declared.moments.Late.{Late}
 use Rattle.conn_core.specs.declared.state.Next.{Next}
 use Rattle.conn_core.specs.declared.state.Next.TheVariants as next
 use Rattle.conn_core.specs.declared.state.State.{State}
 use Rattle.conn_core.specs.declared.state.State.TheVariants as state
+use Rattle.conn_core.specs.Keeps.{Keeps, Drains, Read}
 use Rattle.conn_core.specs.Shown.{Shown, Moved}
 use Rattle.conn_core.specs.Moves.{size_of, ReadsOnce, Move, Goes, turn_at, TurnStops, flush_at, FlushStops, OwesRightly}
 
--- why a turn may end a connection, by what became of its link: that a read told the peer's end, or that a failure
--- was counted. Whether the peer ended changes only with the first of them
-abbrev pub TurnEnds : Option Why → Seen → Seen → Type 0
-TurnEnds None s s' = s'.over ≡ s.over
-TurnEnds (Some why.Closed) s s' = s'.over ≡ s.over
-TurnEnds (Some why.PeerEnd) s s' = s'.over ≡ marked s.over
-TurnEnds (Some (why.Idle by)) s s' = ⊥
-TurnEnds (Some (why.TimedOut since now)) s s' = ⊥
-TurnEnds (Some (why.Stalled since now)) s s' = ⊥
-TurnEnds (Some (why.Unread level)) s s' = ⊥
-TurnEnds (Some why.ReadFailed) s s' = (s'.over ≡ s.over) × Rose s.failed_reads s'.failed_reads
-TurnEnds (Some why.WriteFailed) s s' = (s'.over ≡ s.over) × Rose s.failed_writes s'.failed_writes
-TurnEnds (Some (why.Halted level)) s s' = ⊥
-TurnEnds (Some why.NoMemory) s s' = s'.over ≡ s.over
-TurnEnds (Some why.Hijacked) s s' = s'.over ≡ s.over
+-- why a turn or a flush may end a connection, by what became of its link: that a read told the peer's end, or that a
+-- failure was counted. Whether the peer ended changes only with the first of them. One whose last request took too long
+-- ends as that
+abbrev pub TurnEnds : Option Late → Option Why → Seen → Seen → Type 0
+TurnEnds late None s s' = s'.over ≡ s.over
+TurnEnds late (Some why.Closed) s s' = s'.over ≡ s.over
+TurnEnds late (Some why.PeerEnd) s s' = s'.over ≡ marked s.over
+TurnEnds late (Some (why.Idle by)) s s' = ⊥
+TurnEnds late (Some (why.TimedOut since now)) s s' = (late ≡ Some (record { since = since; now = now })) × (s'.over ≡ s.over)
+TurnEnds late (Some (why.Stalled since now)) s s' = ⊥
+TurnEnds late (Some (why.Unread level)) s s' = ⊥
+TurnEnds late (Some why.ReadFailed) s s' = (s'.over ≡ s.over) × Rose s.failed_reads s'.failed_reads
+TurnEnds late (Some why.WriteFailed) s s' = (s'.over ≡ s.over) × Rose s.failed_writes s'.failed_writes
+TurnEnds late (Some (why.Halted level)) s s' = ⊥
+TurnEnds late (Some why.NoMemory) s s' = s'.over ≡ s.over
+TurnEnds late (Some why.Hijacked) s s' = s'.over ≡ s.over
 
 -- what became of the link in a read that answered so: whether the peer ended changes only where the read told it, and
 -- a failure was counted
@@ -49,6 +52,7 @@ IsOfFeed (Some ended) = ⊥
 abbrev pub IsOfFlush : Option Why → Type 0
 IsOfFlush None = ⊤
 IsOfFlush (Some why.Closed) = ⊤
+IsOfFlush (Some (why.TimedOut since now)) = ⊤
 IsOfFlush (Some why.WriteFailed) = ⊤
 IsOfFlush (Some why.NoMemory) = ⊤
 IsOfFlush (Some why.Hijacked) = ⊤
@@ -69,9 +73,10 @@ FeedTells next.TurnOver answer old new came s s' = ⊥
 FeedTells next.Over answer old new came s s' = new.state ≡ state.Over
 
 -- a `feed`: one read, which answered so, and gave the bytes that came
-pub record Feeds (result : Next) (old new : Shown) (s s' : Seen) : Type 0 where
+pub record Feeds (now : ℕ) (result : Next) (old new : Shown) (s s' : Seen) : Type 0 where
   pub answer : LinkRead
   pub once : ReadsOnce answer old new s s'
+  pub keeps : Keeps now (Read answer) old new
   pub moved : Moved old new s s' 1 0
   pub came_is : length moved.came ≡ size_of answer
   pub calls : new.calls ≡ old.calls
@@ -113,19 +118,20 @@ RestsBehind state.Hijacked before replied = before < replied
 RestsBehind state.Over before replied = ⊤
 
 -- a turn: at most 10 runs, 160 reads and 160 writes, made by these moves, behind which it stops
-pub record Turns (result : Next) (old new : Shown) (s s' : Seen) : Type 0 where
+pub record Turns (now : ℕ) (result : Next) (old new : Shown) (s s' : Seen) : Type 0 where
   pub runs : ℕ
   pub reads : ℕ
   pub writes : ℕ
   pub few : (runs ≤ 10) × (reads ≤ 160) × (writes ≤ 160)
   pub moves : List Move
   pub waited : Bool
-  pub made : Goes moves (turn_at old s 0 0 0 false) (turn_at new s' runs reads writes waited)
+  pub made : Goes now moves (turn_at old s 0 0 0 false) (turn_at new s' runs reads writes waited)
   pub stops : TurnStops (turn_at new s' runs reads writes waited)
   pub moved : Moved old new s s' reads writes
   pub calls : new.calls ≡ old.calls + runs
   pub rests : RestsBehind new.state old.replied new.replied
-  pub ends : TurnEnds new.why s s'
+  pub drains : Drains old new
+  pub ends : TurnEnds None new.why s s'
   pub tells : TurnTells result runs reads writes moved.came old new s s'
 
 -- what a `flush` leaves, by the state before it: behind a reply the connection rests as behind one, and a hijacker that
@@ -154,12 +160,12 @@ FlushTells next.Over writes old new s s' = new.state ≡ state.Over
 
 -- a `flush`: at most 16 writes, each of which took bytes but a last one that had to wait, made by these moves, behind
 -- which it stops
-pub record Flushes (result : Next) (old new : Shown) (s s' : Seen) : Type 0 where
+pub record Flushes (now : ℕ) (result : Next) (old new : Shown) (s s' : Seen) : Type 0 where
   pub writes : ℕ
   pub few : writes ≤ 16
   pub moves : List Move
   pub waited : Bool
-  pub made : Goes moves (flush_at old s 0 false) (flush_at new s' writes waited)
+  pub made : Goes now moves (flush_at old s 0 false) (flush_at new s' writes waited)
   pub stops : FlushStops (flush_at new s' writes waited)
   pub moved : Moved old new s s' 0 writes
   pub came : moved.came ≡ []
@@ -167,6 +173,7 @@ pub record Flushes (result : Next) (old new : Shown) (s s' : Seen) : Type 0 wher
   pub calls : new.calls ≡ old.calls
   pub falls : new.state ≡ old.state → length new.owed + writes ≤ length old.owed + 1
   pub rests : Leaves old.state old new
+  pub drains : Drains old new
   pub why : IsOfFlush new.why
-  pub ends : TurnEnds new.why s s'
+  pub ends : TurnEnds old.ending.late new.why s s'
   pub tells : FlushTells result writes old new s s'

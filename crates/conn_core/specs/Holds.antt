@@ -1,6 +1,7 @@
 -- What a connection stands for between its steps, by where it is.
-use Rattle.std.specs.Prelude.{◌≡◌, ℕ, suc, ◌-◌, ◌^◌, min, Bool, true, false, List, [], ◌++◌, length, None, Some}
+use Rattle.std.specs.Prelude.{◌≡◌, ℕ, suc, ◌-◌, ◌^◌, min, ◌+◌, ◌≤◌, Bool, true, false, List, [], ◌++◌, length, Option, None, Some, is_some, ⊤}
 use Rattle.rack_types.specs.declared.fault.Fault.{Fault}
+use Rattle.rack_types.specs.Limits.{stock_limits}
 use Rattle.rack_types.specs.Request.{Parts}
 use Rattle.rack_types.specs.declared.body.Body.{Ghosts}
 use Rattle.rack_outside.specs.Link.{Seen}
@@ -10,16 +11,18 @@ use Rattle.message_framing.specs.Request.{IsRequest, Refusal, Wanting}
 use Rattle.hijack_core.specs.Said.{GoesOnAs}
 use Rattle.reply_framing.specs.declared.types.After.TheVariants.{Hijack}
 use Rattle.reply_framing.specs.Owes.{Owes}
-use Rattle.talk_core.specs.Ended.{Past, Shows, AreLives}
-use Rattle.talk_core.specs.Stands.{Stands, silent, replies, refuses, hands_over}
+use Rattle.talk_core.specs.Ended.{Past, Shows, AreLives, NeedsDrain}
+use Rattle.talk_core.specs.Stands.{Stands, ClosesAt, silent, replies, refuses, times_out, hands_over}
 use Rattle.talk_core.specs.Tail.{Voice, goes_on}
 use Rattle.talk_core.specs.Teller.{Stacks, Teller, tell}
 use Rattle.conn_core.specs.declared.conn.Conn.{Conn}
 use Rattle.conn_core.specs.declared.inside.Inside.{Inside}
+use Rattle.conn_core.specs.declared.moments.Ending.{Ending}
+use Rattle.conn_core.specs.declared.moments.Late.{Late}
 use Rattle.conn_core.specs.declared.place.At.{At}
 use Rattle.conn_core.specs.declared.place.At.TheVariants as at
 use Rattle.conn_core.specs.Plain.{EndsPlainly}
-use Rattle.conn_core.specs.Rests.{after_of}
+use Rattle.conn_core.specs.Rests.{after_of, IsUnended}
 
 -- how many bytes were read, up to 2^64 - 1
 abbrev pub Counts : ℕ → List ℕ → Type 0
@@ -32,33 +35,37 @@ pub record Kept : Type 0 where
   pub ring : List ℕ
   pub calls : ℕ
   pub taken : ℕ
+  pub ending : Ending
 
 -- what a connection has behind it
-abbrev pub past : Seen → ℕ → List ℕ → List ℕ → Bool → Past
-past s calls given sent over = record {
+abbrev pub past : Seen → Kept → List ℕ → List ℕ → Bool → Past
+past s c given sent over = record {
   given = given;
   sent = sent;
   over = over;
   failed_reads = s.failed_reads;
   failed_writes = s.failed_writes;
-  calls = calls;
-  told = 0;
-  closing = None;
+  calls = c.calls;
+  told = c.ending.told;
+  closing = c.ending.closing;
 }
 
--- nothing is owed: the intake was fed these bytes, and those held come behind them. The peer did not end
+-- nothing is owed: the intake was fed these bytes, and those held come behind them. The peer did not end, and nothing
+-- ends the connection
 pub record Between {H : Type 0} (V : Voice H) (T : Teller H) (over : Bool) (given sent : List ℕ) (c : Kept) (now : List ℕ) : Type 0 where
   pub fed : Fed c.intake now
   pub ring : c.ring ≡ []
   pub live : over ≡ false
+  pub unended : IsUnended c.ending
   pub stands : Stands V T over given sent c.calls silent (now ++ c.held) []
 
 -- a reply is under way: what is owed of it is in the ring and behind it, and the bytes held come behind its request.
--- The peer did not end
+-- The peer did not end. Where it closes by draining, no byte is held unless it is a hijack
 pub record Replying {H : Type 0} (V : Voice H) (T : Teller H) (over : Bool) (given sent : List ℕ) (c : Kept) (k : ℕ) (r : Parts)
     (behind : List ℕ) : Type 0 where
   pub count : c.calls ≡ suc k
   pub live : over ≡ false
+  pub closes : ClosesAt c.ending.closing c.calls ((T k r).after ≡ Hijack) c.held
   pub stands : Stands V T over given sent k (replies r) c.held (c.ring ++ behind)
 
 -- the hijacker that a reply handed the connection to was told the rest of the bytes, and what it said of that and
@@ -69,6 +76,7 @@ pub record Handed {H : Type 0} (V : Voice H) (T : Teller H) (over : Bool) (given
   pub first : H
   pub rest : List ℕ
   pub count : c.calls ≡ suc k
+  pub closes : ClosesAt c.ending.closing c.calls ⊤ rest
   pub stands : Stands V T over given sent k (hands_over request first) rest c.ring
 
 -- the same, and it goes on: it is this one behind those bytes. The peer did not end, and no byte is held
@@ -78,10 +86,18 @@ pub record Hears {H : Type 0} (V : Voice H) (T : Teller H) (over : Bool) (given 
   pub goes : (V.says handed.first handed.rest).go_on ≡ true
   pub behind : GoesOnAs (V.says handed.first) (V.ends handed.first) handed.rest (V.says now) (V.ends now)
 
--- the same, and it said its last: it does not go on, or it was told the peer's end
+-- the same, and it said its last: it does not go on, or it was told the peer's end, or to leave
 pub record SaidLast {H : Type 0} (V : Voice H) (T : Teller H) (over : Bool) (given sent : List ℕ) (c : Kept) : Type 0 where
   pub handed : Handed V T over given sent c
-  pub ended : goes_on V handed.first handed.rest over ≡ false
+  pub ended : NeedsDrain (goes_on V handed.first handed.rest over) c.ending.told
+
+-- the reply that names a refusal is in the ring, or the one that says that a request took too long
+abbrev pub Refuses : {H : Type 0} → Option Late → Voice H → Teller H → Bool → List ℕ → List ℕ → Kept → Type 0
+Refuses {H} None V T over given sent c =
+    (f : Fault) × (rest : List ℕ) × Stands V T over given sent c.calls (refuses f) rest c.ring × (c.ending.closing ≡ None)
+Refuses {H} (Some late) V T over given sent c =
+    (rest : List ℕ) × Stands V T over given sent c.calls times_out rest c.ring × (c.ending.closing ≡ None)
+    × (late.since + stock_limits.request_ms ≤ late.now)
 
 abbrev pub HoldsAt : {B H : Type 0} → At B H → Voice H → Teller H → Seen → Bool → List ℕ → List ℕ → Kept → Type 0
 HoldsAt {B} {H} at.Reading V T s over given sent c =
@@ -96,12 +112,11 @@ HoldsAt {B} {H} (at.Writing keeps) V T s over given sent c =
     (k : ℕ) × (r : Parts) × (after_of keeps ≡ (T k r).after) × Replying V T over given sent c k r []
 HoldsAt {B} {H} (at.Handing h) V T s over given sent c =
     (k : ℕ) × (r : Parts) × ((T k r).after ≡ Hijack) × ((T k r).hijacker ≡ Some h) × Replying V T over given sent c k r []
-HoldsAt {B} {H} at.Refusing V T s over given sent c =
-    (f : Fault) × (rest : List ℕ) × Stands V T over given sent c.calls (refuses f) rest c.ring
+HoldsAt {B} {H} at.Refusing V T s over given sent c = Refuses c.ending.late V T over given sent c
 HoldsAt {B} {H} (at.Taken h) V T s over given sent c = Hears V T over given sent c h
 HoldsAt {B} {H} (at.Speaking h) V T s over given sent c = Hears V T over given sent c h
 HoldsAt {B} {H} at.Parting V T s over given sent c = SaidLast V T over given sent c
-HoldsAt {B} {H} (at.Over why) V T s over given sent c = EndsPlainly why V T (past s c.calls given sent over)
+HoldsAt {B} {H} (at.Over why) V T s over given sent c = EndsPlainly (is_some c.ending.late) why V T (past s c given sent over)
 
 -- a connection at this place stands for its talk, over these replies: what its link tells, and what it keeps
 pub record StandsAt {B H : Type 0} (V : Voice H) (T : Teller H) (s : Seen) (peer : List ℕ) (a : At B H) (c : Kept) : Type 0 where
@@ -113,7 +128,14 @@ pub record StandsAt {B H : Type 0} (V : Voice H) (T : Teller H) (s : Seen) (peer
   pub at : HoldsAt a V T s over given sent c
 
 abbrev pub kept : {B H : Type 0} {g : Ghosts B} → Inside B H g → Kept
-kept {B} {H} {g} p = record { intake = p.intake; held = p.held; ring = p.ring.items; calls = p.calls; taken = p.taken }
+kept {B} {H} {g} p = record {
+  intake = p.intake;
+  held = p.held;
+  ring = p.ring.items;
+  calls = p.calls;
+  taken = p.taken;
+  ending = p.ending;
+}
 
 abbrev pub HoldsBy : {B H : Type 0} {g : Ghosts B} → Voice H → Teller H → Seen → Inside B H g → Type 0
 HoldsBy {B} {H} {g} V T s p = StandsAt V T s p.peer p.at (kept p)
@@ -125,4 +147,4 @@ HoldsWith {L} {B} {H} {g} seen V T c = HoldsBy V T (seen c.link) c.inside.value
 -- the same over stacks
 pub record Holds {L B H : Type 0} {g : Ghosts B} (seen : L → Seen) (V : Voice H) (S : Stacks H) (c : Conn L B H g) : Type 0 where
   pub lives_are : AreLives c.inside.value.lives.items
-  pub stands : HoldsWith seen V (tell S c.inside.value.lives.items c.inside.value.local c.inside.value.peer None) c
+  pub stands : HoldsWith seen V (tell S c.inside.value.lives.items c.inside.value.local c.inside.value.peer c.inside.value.ending.closing) c

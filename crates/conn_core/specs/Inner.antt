@@ -1,5 +1,5 @@
 -- What the steps of a connection leave of what it shows. This serves inner contracts alone.
-use Rattle.std.specs.Prelude.{◌≡◌, ◌≢◌, ℕ, ◌+◌, ◌-◌, ◌*◌, ◌<◌, ◌≤◌, Bool, true, false, List, [], length, None, Some, ◌⊎◌, ⊤}
+use Rattle.std.specs.Prelude.{◌≡◌, ◌≢◌, ℕ, ◌+◌, ◌-◌, ◌*◌, ◌<◌, ◌≤◌, Bool, true, false, List, [], length, take, Option, None, Some, ◌⊎◌, ⊤}
 use Rattle.rack_types.specs.declared.fault.Fault.{Fault}
 use Rattle.rack_types.specs.declared.peer.Local.{Local}
 use Rattle.rack_types.specs.Request.{Parts}
@@ -24,7 +24,8 @@ use Rattle.conn_core.specs.declared.state.State.TheVariants as state
 use Rattle.conn_core.specs.Place.{IsHearing, state_at}
 use Rattle.conn_core.specs.Shown.{Shown, Moved}
 use Rattle.conn_core.specs.Calls.{TurnEnds, IsOfFeed, IsOfFlush, RestsBehind}
-use Rattle.conn_core.specs.Moves.{ring_room, SameShown, Starts, NamesFault, WantsMemory, write_waits, WritesOnce, OwesRightly, Move, Moment, Makes, TurnStops}
+use Rattle.conn_core.specs.Keeps.{Keeps, Drains, filled_if, no_bytes, Move, Run, Refusal, Want, Write}
+use Rattle.conn_core.specs.Moves.{ring_room, SameShown, Starts, NamesFault, WantsMemory, write_waits, WritesOnce, OwesRightly, Moment, Makes, TurnStops}
 
 -- behind bytes that were fed the connection reads on, is ready, or wanted memory
 abbrev pub IsFed : State → Type 0
@@ -47,7 +48,7 @@ pub record ReadsBy (result : LinkRead) (old new : Shown) (s s' : Seen) : Type 0 
   pub replied : new.replied ≡ old.replied
   pub sent : s'.sent ≡ s.sent
   pub why : IsOfFeed new.why
-  pub ends : TurnEnds new.why s s'
+  pub ends : TurnEnds None new.why s s'
   pub leaves : ReadLeaves result new moved.came s s'
 
 -- behind what it was told a hijacker has the connection, or that ended
@@ -74,19 +75,22 @@ pub record HearsBy (result : LinkRead) (old new : Shown) (s s' : Seen) : Type 0 
   pub leaves : HearLeaves result new moved.came s s'
 
 -- a request was run, and its reply begins; or memory was refused before it
-abbrev pub RunsOnce : Bool → Shown → Shown → Type 0
-RunsOnce true old new = Starts old new
-RunsOnce false old new = WantsMemory old new
+abbrev pub RunsOnce : ℕ → Bool → Shown → Shown → Type 0
+RunsOnce now true old new = Starts old new × Keeps now Run old new
+RunsOnce now false old new = WantsMemory old new × Keeps now Want old new
 
 -- the run of a request was made, or not
 abbrev pub runs_of : Bool → ℕ
 runs_of true = 1
 runs_of false = 0
 
--- the replies are those by this answer to the requests of such a connection
-abbrev pub TellsBy : {H : Type 0} → Teller H → Stack H → Local → List ℕ → Type 0
-TellsBy {H} T answer local peer =
-    (k : ℕ) (r : Parts) → T k r ≡ reply_of answer (env_pairs r peer local) r (is_last None k)
+-- the reply to this request is that by this answer, where the reply to one closes by draining
+abbrev pub TellsBy : {H : Type 0} → Teller H → Stack H → Local → List ℕ → Option ℕ → ℕ → Type 0
+TellsBy {H} T answer local peer closing k = (r : Parts) → T k r ≡ reply_of answer (env_pairs r peer local) r (is_last closing k)
+
+-- the same of each request from one number on and below another
+abbrev pub TellsFrom : {H : Type 0} → Teller H → Stack H → Local → List ℕ → Option ℕ → ℕ → ℕ → Type 0
+TellsFrom {H} T answer local peer closing first end = (k : ℕ) → first ≤ k → k < end → TellsBy T answer local peer closing k
 
 -- the writes of a step that says
 abbrev pub writes_of : Said → ℕ
@@ -123,7 +127,7 @@ pub record Says (result : Said) (old new : Shown) (s s' : Seen) : Type 0 where
   pub calls : new.calls ≡ old.calls
   pub replied : SaysOn old.state new.state old.replied new.replied
   pub why : IsOfFlush new.why
-  pub ends : TurnEnds new.why s s'
+  pub ends : TurnEnds old.ending.late new.why s s'
   pub leaves : SaidLeaves result old new s s'
 
 -- one step of a turn: where a connection rests behind so many replies before it, it does behind it; and what ended
@@ -134,8 +138,9 @@ pub record Steps (old new : Shown) (s s' : Seen) (l l' : Left) : Type 0 where
   pub calls : new.calls + l'.runs ≡ old.calls + l.runs
   pub few : (l'.runs ≤ l.runs) × (l'.reads ≤ l.reads) × (l'.writes ≤ l.writes)
   pub replied : (n : ℕ) → RestsBehind old.state n old.replied → RestsBehind new.state n new.replied
-  pub ends : (first : Seen) → first.failed_reads ≤ s.failed_reads → first.failed_writes ≤ s.failed_writes
-      → TurnEnds old.why first s → TurnEnds new.why first s'
+  pub drains : Drains old new
+  pub ends : old.ending.late ≡ None → (first : Seen) → first.failed_reads ≤ s.failed_reads → first.failed_writes ≤ s.failed_writes
+      → TurnEnds None old.why first s → TurnEnds None new.why first s'
 
 -- what falls with each step that was made
 abbrev pub rank : {B H : Type 0} → At B H → ℕ
@@ -165,7 +170,7 @@ StepLeaves {B} {H} step.Waits l l' a b s s' = Rose s.waits s'.waits
 StepLeaves {B} {H} step.Stops l l' a b s s' = (state_at b ≡ state.Over) ⊎ (IsHearing b ⊎ IsSpentLeft l')
 
 -- the ring was filled with what is owed, or memory was refused for the rest of it
-pub record Fills (old new : Shown) : Type 0 where
+pub record Fills (now : ℕ) (old new : Shown) : Type 0 where
   pub same : SameShown old new
   pub calls : new.calls ≡ old.calls
   pub replied : new.replied ≡ old.replied
@@ -175,10 +180,13 @@ pub record Fills (old new : Shown) : Type 0 where
   pub held : new.held ≡ old.held
   pub after : new.after ≡ old.after
   pub sure : (old.sure ≡ true) ⊎ (length old.owed ≤ ring_room) → new.sure ≡ true
+  pub ending : new.ending ≡ old.ending
+  pub moments : new.moments ≡ record old.moments { filled = filled_if (no_bytes old.ring) now old.moments.filled }
+  pub ring : new.ring ≡ take ring_room old.owed
 
-abbrev pub FillsShown : Bool → Shown → Shown → Type 0
-FillsShown true old new = Fills old new
-FillsShown false old new = (old.state ≡ state.Answering) × (old.sure ≡ false) × WantsMemory old new
+abbrev pub FillsShown : ℕ → Bool → Shown → Shown → Type 0
+FillsShown now true old new = Fills now old new
+FillsShown now false old new = (old.state ≡ state.Answering) × (old.sure ≡ false) × WantsMemory old new × Keeps now Want old new
 
 -- bytes are in the ring; and where a framer has the rest of the reply, the ring is full and more come
 abbrev pub IsFilledAt : {B H : Type 0} → At B H → List ℕ → Type 0
@@ -195,17 +203,20 @@ IsFilledAt {B} {H} at.Parting ring = 0 < length ring
 IsFilledAt {B} {H} (at.Over ended) ring = ⊥
 
 -- how a request or a refusal was taken up, by the runs that it took
-abbrev pub TakesUp : ℕ → Shown → Shown → Type 0
-TakesUp runs old new =
-    ((runs ≡ 1) × (old.fault ≡ None) × Starts old new)
+abbrev pub TakesUp : ℕ → ℕ → Shown → Shown → Type 0
+TakesUp now runs old new =
+    ((runs ≡ 1) × (old.fault ≡ None) × Starts old new × Keeps now Run old new)
     ⊎ ((runs ≡ 0)
-    × (((fault : Fault) × (old.fault ≡ Some fault) × NamesFault fault old new) ⊎ ((old.fault ≡ None) × WantsMemory old new)))
+    × (((fault : Fault) × (old.fault ≡ Some fault) × NamesFault fault old new × Keeps now (Refusal fault) old new)
+    ⊎ ((old.fault ≡ None) × WantsMemory old new × Keeps now Want old new)))
 
 -- how a step that says went: memory was refused, or it was one write
-abbrev pub SaysOnce : Said → Shown → Shown → Seen → Seen → Type 0
-SaysOnce said.Unwritten old new s s' = (s' ≡ s) × (old.state ≡ state.Answering) × (old.sure ≡ false) × WantsMemory old new
-SaysOnce said.Wrote old new s s' = (answer : LinkWrite) × (write_waits answer ≡ false) × WritesOnce answer old new s s'
-SaysOnce said.Waits old new s s' = WritesOnce write.NotYet old new s s'
+abbrev pub SaysOnce : ℕ → Said → Shown → Shown → Seen → Seen → Type 0
+SaysOnce now said.Unwritten old new s s' =
+    (s' ≡ s) × (old.state ≡ state.Answering) × (old.sure ≡ false) × WantsMemory old new × Keeps now Want old new
+SaysOnce now said.Wrote old new s s' =
+    (answer : LinkWrite) × (write_waits answer ≡ false) × WritesOnce answer old new s s' × Keeps now (Write answer) old new
+SaysOnce now said.Waits old new s s' = WritesOnce write.NotYet old new s s' × Keeps now (Write write.NotYet) old new
 
 -- the moment of a turn of which this is left
 abbrev pub left_at : Shown → Seen → Left → Bool → Moment
@@ -219,11 +230,11 @@ left_at shown seen left waited = record {
 }
 
 -- a move that was made, and what it leaves is owed rightly
-abbrev pub MadeTo : Moment → Moment → Type 0
-MadeTo m n = (move : Move) × Makes move m n × OwesRightly n.shown
+abbrev pub MadeTo : ℕ → Moment → Moment → Type 0
+MadeTo now m n = (move : Move) × Makes now move m n × OwesRightly n.shown
 
 -- how a step went: one move, in which the link had to wait or not; or nothing changed, and the turn stops
-abbrev pub StepMoves : Step → Shown → Shown → Seen → Seen → Left → Left → Type 0
-StepMoves step.GoesOn old new s s' l l' = MadeTo (left_at old s l false) (left_at new s' l' false)
-StepMoves step.Waits old new s s' l l' = MadeTo (left_at old s l false) (left_at new s' l' true)
-StepMoves step.Stops old new s s' l l' = (new ≡ old) × (s' ≡ s) × (l' ≡ l) × TurnStops (left_at new s' l' false)
+abbrev pub StepMoves : ℕ → Step → Shown → Shown → Seen → Seen → Left → Left → Type 0
+StepMoves now step.GoesOn old new s s' l l' = MadeTo now (left_at old s l false) (left_at new s' l' false)
+StepMoves now step.Waits old new s s' l l' = MadeTo now (left_at old s l false) (left_at new s' l' true)
+StepMoves now step.Stops old new s s' l l' = (new ≡ old) × (s' ≡ s) × (l' ≡ l) × TurnStops (left_at new s' l' false)

@@ -5,6 +5,8 @@ pub mod Plain
 pub mod Holds
 pub mod Shown
 pub mod Moves
+pub mod Moments
+pub mod Keeps
 pub mod Calls
 pub mod Inner
 pub mod Answers

@@ -15,14 +15,10 @@ use Rattle.talk_core.specs.declared.ended.Why.{Why}
 use Rattle.talk_core.specs.declared.ended.Why.TheVariants as why
 use Rattle.conn_core.specs.declared.state.State.{State}
 use Rattle.conn_core.specs.declared.state.State.TheVariants as state
+use Rattle.conn_core.specs.Keeps.{Keeps, Move, Run, Refusal, Want, Read, Write}
+use Rattle.conn_core.specs.Moments.{ended_by}
 use Rattle.conn_core.specs.Shown.{Shown}
-
--- how many bytes a read offers room for, and how many of those that are owed a write offers at most
-abbrev pub read_room : ℕ
-read_room = 16384
-
-abbrev pub ring_room : ℕ
-ring_room = 65536
+pub use Rattle.conn_core.specs.Keeps.{read_room, ring_room, Move, Run, Refusal, Want, Read, Write}
 
 -- the peer, the local side, the lives and the count of bytes that were read are as before
 pub record SameShown (old new : Shown) : Type 0 where
@@ -162,7 +158,7 @@ KeptTo state.Over w old new = (w ≡ Some why.NoMemory) × LacksRightly [] old.h
 -- bytes held. Behind what a hijacker said it has the connection, or that was its last
 abbrev pub SentTo : State → After → Shown → Shown → Type 0
 SentTo state.Answering Keep old new = KeptTo new.state new.why old new
-SentTo state.Answering Close old new = (new.state ≡ state.Over) × (new.why ≡ Some why.Closed)
+SentTo state.Answering Close old new = (new.state ≡ state.Over) × (new.why ≡ Some (ended_by old.ending.late))
 SentTo state.Answering Hijack old new = ToldTo new.state new.why × (new.state ≡ state.Hijacked → new.replied ≡ old.replied + 1)
 SentTo state.Hijacked Keep old new =
     (new.state ≡ state.Hijacked) × (new.why ≡ None) × (new.replied ≡ old.replied) × (new.owed ≡ [])
@@ -202,15 +198,6 @@ OwesAs state.Over s = s.owed ≡ []
 abbrev pub OwesRightly : Shown → Type 0
 OwesRightly s = OwesAs s.state s
 
--- a move: the request that stands was run, and its reply begun; the reply to the refusal that stands was begun; memory
--- was refused where a request was to be run, or bytes of a reply were to be made; one read; one write
-pub data Move : Type 0 where
-  Run : Move
-  Refusal : (fault : Fault) → Move
-  Want : Move
-  Read : (answer : LinkRead) → Move
-  Write : (answer : LinkWrite) → Move
-
 -- a moment of a call: what the connection and its link show; how many runs, reads and writes are left of those that
 -- the call may make; and whether the link had to wait
 pub record Moment : Type 0 where
@@ -248,25 +235,29 @@ IsOwing s = (s.state ≡ state.Answering) ⊎ ((s.state ≡ state.Hijacked) × (
 -- one move from a moment to the next: where a request or a refusal stands, it is taken up; where bytes are owed, they
 -- are written; and only where neither is so, is there a read. Memory is refused where a request is to be run, and where
 -- a body is asked for the rest of what is owed
-abbrev pub Makes : Move → Moment → Moment → Type 0
-Makes Run m n =
+abbrev pub MakesMove : Move → Moment → Moment → Type 0
+MakesMove Run m n =
     (m.shown.state ≡ state.Ready) × (m.shown.fault ≡ None) × IsOpen m × Spends 1 0 0 false m n × (n.seen ≡ m.seen) × Starts m.shown n.shown
-Makes (Refusal fault) m n =
+MakesMove (Refusal fault) m n =
     (m.shown.state ≡ state.Ready) × (m.shown.fault ≡ Some fault) × IsOpen m × Spends 0 0 0 false m n × (n.seen ≡ m.seen)
     × NamesFault fault m.shown n.shown
-Makes Want m n =
+MakesMove Want m n =
     (((m.shown.state ≡ state.Ready) × (m.shown.fault ≡ None) × IsOpen m)
     ⊎ ((m.shown.state ≡ state.Answering) × (m.shown.sure ≡ false) × MayWrite m))
     × Spends 0 0 0 false m n × (n.seen ≡ m.seen) × WantsMemory m.shown n.shown
-Makes (Read answer) m n =
+MakesMove (Read answer) m n =
     (m.shown.state ≡ state.Reading) × IsOpen m × Spends 0 1 0 (read_waits answer) m n × ReadsOnce answer m.shown n.shown m.seen n.seen
-Makes (Write answer) m n =
+MakesMove (Write answer) m n =
     IsOwing m.shown × MayWrite m × Spends 0 0 1 (write_waits answer) m n × WritesOnce answer m.shown n.shown m.seen n.seen
 
+-- the same in a call that was handed this moment
+abbrev pub Makes : ℕ → Move → Moment → Moment → Type 0
+Makes now move m n = MakesMove move m n × Keeps now move m.shown n.shown
+
 -- these moves lead from a moment to another
-abbrev pub Goes : List Move → Moment → Moment → Type 0
-Goes [] m n = n ≡ m
-Goes (move ∷ moves) m n = (next : Moment) × Makes move m next × OwesRightly next.shown × Goes moves next n
+abbrev pub Goes : ℕ → List Move → Moment → Moment → Type 0
+Goes now [] m n = n ≡ m
+Goes now (move ∷ moves) m n = (next : Moment) × Makes now move m next × OwesRightly next.shown × Goes now moves next n
 
 -- the moment of a turn in which so many runs, reads and writes were made. It may make 10, 160 and 160
 abbrev pub turn_at : Shown → Seen → ℕ → ℕ → ℕ → Bool → Moment

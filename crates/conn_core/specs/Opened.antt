@@ -7,13 +7,23 @@ use Rattle.reply_framing.specs.declared.types.After.TheVariants.{Keep}
 use Rattle.talk_core.specs.declared.ended.Ended.{Ended}
 use Rattle.talk_core.specs.declared.ended.Why.TheVariants as why
 use Rattle.conn_core.specs.declared.inside.Inside.{Inside}
+use Rattle.conn_core.specs.declared.moments.Ending.{Ending}
+use Rattle.conn_core.specs.declared.moments.Moments.{Moments}
 use Rattle.conn_core.specs.declared.place.At.TheVariants as at
 use Rattle.conn_core.specs.declared.state.State.TheVariants as state
 use Rattle.conn_core.specs.Shown.{Shown}
 
+-- nothing was told of its end
+abbrev pub untold : Ending
+untold = record { told = 0; closing = None; late = None }
+
+-- the moments at the opening
+abbrev pub first_moments : ℕ → Moments
+first_moments now = record { last = now; opened = now; took = None; begun = None; filled = now }
+
 -- what a connection shows at its start: one life, and nothing was run, read or said
-abbrev pub opened : List ℕ → Local → ℕ → Shown
-opened peer local phase = record {
+abbrev pub opened : List ℕ → Local → ℕ → ℕ → Shown
+opened peer local phase now = record {
   peer = peer;
   local = local;
   lives = record { first = 0; phase = phase } ∷ [];
@@ -27,6 +37,9 @@ opened peer local phase = record {
   held = [];
   after = Keep;
   sure = true;
+  ring = [];
+  ending = untold;
+  moments = first_moments now;
 }
 
 -- memory was refused: the link is handed back, and nothing was run
@@ -40,7 +53,7 @@ pub record IsUnopened {L : Type 0} (number : ℕ) (link : L) (e : Ended L) : Typ
   pub why_is : e.why ≡ why.NoMemory
 
 -- the parts of a connection at its start
-pub record IsFresh {B H : Type 0} {g : Ghosts B} (peer : List ℕ) (local : Local) (phase : ℕ) (p : Inside B H g) : Type 0 where
+pub record IsFresh {B H : Type 0} {g : Ghosts B} (peer : List ℕ) (local : Local) (phase now : ℕ) (p : Inside B H g) : Type 0 where
   pub peer_is : p.peer ≡ peer
   pub local_is : p.local ≡ local
   pub lives_are : p.lives.items ≡ record { first = 0; phase = phase } ∷ []
@@ -49,4 +62,6 @@ pub record IsFresh {B H : Type 0} {g : Ghosts B} (peer : List ℕ) (local : Loca
   pub ring : p.ring.items ≡ []
   pub calls : p.calls ≡ 0
   pub taken : p.taken ≡ 0
+  pub ending : p.ending ≡ untold
+  pub moments : p.moments ≡ first_moments now
   pub at_is : p.at ≡ at.Reading

@@ -1,23 +1,46 @@
--- What a connection's owner does with it beside moving it on: it ends it, places it anew, or lends its link out.
-use Rattle.std.specs.Prelude.{◌≡◌, ◌≢◌, ℕ, [], ◌∷◌, Some, ⊤}
+-- What a connection's owner does with it beside moving it on: it ends it, places it anew, tells it the time or a drain, or
+-- lends its link out.
+use Rattle.std.specs.Prelude.{◌≡◌, ◌≢◌, ℕ, zero, suc, true, if◌then◌else◌, List, [], ◌∷◌, length, Option, None, Some, ◌⊎◌, ⊤}
+use Rattle.rack_types.specs.declared.fault.Fault.TheVariants.{T1}
+use Rattle.rack_types.specs.Limits.{stock_limits}
+use Rattle.reply_framing.specs.declared.types.After.TheVariants.{Keep, Close}
+use Rattle.reply_framing.specs.Fault.{fault_reply}
+use Rattle.talk_core.specs.declared.ended.IdleBy.TheVariants.{Clock, Drain}
 use Rattle.talk_core.specs.declared.ended.Why.{Why}
 use Rattle.talk_core.specs.declared.ended.Why.TheVariants as why
 use Rattle.talk_core.specs.Ended.{AreLives}
+use Rattle.rack_outside.specs.Link.{Seen, Tells}
+use Rattle.rack_types.specs.Request.{Parts}
+use Rattle.message_framing.specs.Request.{Wanting}
+use Rattle.talk_core.specs.Talk.{Asks}
+use Rattle.conn_core.specs.Rests.{BegunAs}
+use Rattle.conn_core.specs.declared.state.State.{State}
 use Rattle.conn_core.specs.declared.state.State.TheVariants as state
-use Rattle.conn_core.specs.Moves.{SameShown}
+use Rattle.conn_core.specs.declared.state.Tick.{Tick}
+use Rattle.conn_core.specs.declared.state.Tick.TheVariants as tick
+use Rattle.conn_core.specs.declared.state.Told.{Told}
+use Rattle.conn_core.specs.declared.state.Told.TheVariants as told
+use Rattle.conn_core.specs.Keeps.{no_bytes}
+use Rattle.conn_core.specs.Moments.{quiet_since, stuck_since, Passed}
+use Rattle.conn_core.specs.Moves.{IsOwing}
 use Rattle.conn_core.specs.Shown.{Shown}
 
 -- no byte was ever read, and it isn't over
 abbrev pub IsUnread : Shown → Type 0
 IsUnread c = (c.taken ≡ 0) × (c.state ≢ state.Over)
 
--- it was ended at once for this why, and nothing else of it changed
-pub record EndedAs (reason : Why) (old new : Shown) : Type 0 where
-  pub same : SameShown old new
-  pub calls : new.calls ≡ old.calls
-  pub state : new.state ≡ state.Over
-  pub why_is : new.why ≡ Some reason
-  pub owed : new.owed ≡ []
+-- it ended for this why, and nothing else of it changed
+abbrev pub ended_as : Why → Shown → Shown
+ended_as reason c = record c {
+  replied = c.calls;
+  owed = [];
+  state = state.Over;
+  why = Some reason;
+  fault = None;
+  after = Keep;
+  sure = true;
+  ring = [];
+}
 
 -- a connection may be ended so at any moment: by a halt, whose level is 2, or where its owner lacks memory for it
 abbrev pub EndsAnyTime : Why → Type 0
@@ -33,7 +56,83 @@ EndsAnyTime (why.Halted level) = level ≡ 2
 EndsAnyTime why.NoMemory = ⊤
 EndsAnyTime why.Hijacked = ⊥
 
--- its life is in this phase from now on, and nothing else of it changed
+-- its life is in this phase from now on, and it was told nothing; and nothing else of it changed
 pub record PlacedIn (phase : ℕ) (old new : Shown) : Type 0 where
   pub lives : AreLives old.lives → new.lives ≡ record { first = 0; phase = phase } ∷ []
-  pub rest : new ≡ record old { lives = new.lives }
+  pub rest : new ≡ record old { lives = new.lives; ending = record old.ending { told = 0 } }
+
+-- for 10,000 ms the link took nothing of what is in the ring
+abbrev pub IsStalled : ℕ → Shown → Type 0
+IsStalled now c = (c.ring ≢ []) × Passed (stuck_since c.moments) stock_limits.write_ms now
+
+-- a request was begun at this moment, and did not become whole for 30,000 ms
+abbrev pub IsLate : ℕ → ℕ → Shown → Type 0
+IsLate since now c = (c.state ≡ state.Reading) × (c.moments.begun ≡ Some since) × Passed since stock_limits.request_ms now
+
+-- nothing is begun, and for 20,000 ms nothing was sent
+abbrev pub IsIdle : ℕ → Shown → Type 0
+IsIdle now c = (c.state ≡ state.Reading) × (c.moments.begun ≡ None) × Passed (quiet_since c.moments) stock_limits.idle_ms now
+
+-- the reply that says that a request took too long was begun, and all of it is owed
+abbrev pub late_as : ℕ → ℕ → Shown → Shown
+late_as since now c = record c {
+  owed = fault_reply T1;
+  state = state.Answering;
+  after = Close;
+  ring = fault_reply T1;
+  ending = record c.ending { late = Some (record { since = since; now = now }) };
+  moments = record c.moments { filled = now };
+}
+
+-- what a tick at this moment answers, and leaves
+abbrev pub Ticks : Tick → ℕ → Shown → Shown → Type 0
+Ticks tick.Still now old new = ¬ (IsStalled now old) × ((since : ℕ) → ¬ (IsLate since now old)) × ¬ (IsIdle now old) × (new ≡ old)
+Ticks tick.Write now old new =
+    ¬ (IsStalled now old) × ((since : ℕ) × IsLate since now old × (new ≡ late_as since now old))
+Ticks tick.Over now old new =
+    (IsStalled now old × (new ≡ ended_as (why.Stalled (stuck_since old.moments) now) old))
+    ⊎ (¬ (IsStalled now old) × IsIdle now old × (new ≡ ended_as (why.Idle (Clock (quiet_since old.moments) now)) old))
+
+-- what a drain of this level leaves of a connection that was read, by its state: one that reads and has begun nothing
+-- ends; and so does one that a hijacker has, where nothing is owed, and else behind what is owed
+abbrev pub drained_reading : Option ℕ → ℕ → Shown → Shown
+drained_reading None level c = ended_as (why.Idle (Drain level)) c
+drained_reading (Some since) level c = c
+
+abbrev pub drained_in : State → ℕ → Shown → Shown
+drained_in state.Reading level c = drained_reading c.moments.begun level c
+drained_in state.Ready level c = c
+drained_in state.Answering level c = c
+drained_in state.Hijacked level c = if no_bytes c.owed then ended_as why.Hijacked c else record c { after = Close }
+drained_in state.Over level c = c
+
+-- one of which no byte was ever read stays as it is
+abbrev pub drained_from : ℕ → ℕ → Shown → Shown
+drained_from zero level c = c
+drained_from (suc n) level c = drained_in c.state level c
+
+-- what a drain of this level leaves
+abbrev pub drained : ℕ → Shown → Shown
+drained level c = drained_from c.taken level (record c { ending = record c.ending { told = level } })
+
+-- what the telling answers: the first of Over, Unread, Write and Stays that stands behind it
+abbrev pub DrainTells : Told → Shown → Type 0
+DrainTells told.Over c = c.state ≡ state.Over
+DrainTells told.Unread c = IsUnread c
+DrainTells told.Write c = (c.state ≢ state.Over) × ¬ (IsUnread c) × IsOwing c
+DrainTells told.Stays c = (c.state ≢ state.Over) × ¬ (IsUnread c) × ¬ (IsOwing c)
+
+-- where more of a request is to be read: all requests in the bytes that came were run, and a moment is kept exactly where
+-- one is begun behind them
+pub record ReadsOn (s : Seen) (c : Shown) : Type 0 where
+  pub given : List ℕ
+  pub asked : List Parts
+  pub rest : List ℕ
+  pub given_is : Tells s.given given
+  pub asks : Asks given asked rest
+  pub all : c.calls ≡ length asked
+  pub waits : Wanting rest
+  pub begun : BegunAs c.moments.begun rest
+
+abbrev pub BeginsRightly : Seen → Shown → Type 0
+BeginsRightly s c = c.state ≡ state.Reading → ReadsOn s c

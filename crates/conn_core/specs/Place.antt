@@ -1,5 +1,6 @@
 -- What a place is.
 use Rattle.std.specs.Prelude.{◌≡◌, ◌⊎◌, ⊤}
+use Rattle.talk_core.specs.declared.ended.Why.TheVariants as why
 use Rattle.conn_core.specs.declared.place.At.{At}
 use Rattle.conn_core.specs.declared.place.At.TheVariants as at
 use Rattle.conn_core.specs.declared.state.State.{State}
@@ -46,6 +47,34 @@ IsHearing {B} {H} (at.Taken h) = ⊤
 IsHearing {B} {H} (at.Speaking h) = ⊥
 IsHearing {B} {H} at.Parting = ⊥
 IsHearing {B} {H} (at.Over why) = ⊥
+
+-- a hijacker takes the connection over behind a reply
+abbrev pub IsHanding : {B H : Type 0} → At B H → Type 0
+IsHanding {B} {H} at.Reading = ⊥
+IsHanding {B} {H} at.Asked = ⊥
+IsHanding {B} {H} (at.Refused f) = ⊥
+IsHanding {B} {H} (at.Answering framer) = ⊥
+IsHanding {B} {H} (at.Writing keeps) = ⊥
+IsHanding {B} {H} (at.Handing h) = ⊤
+IsHanding {B} {H} at.Refusing = ⊥
+IsHanding {B} {H} (at.Taken h) = ⊥
+IsHanding {B} {H} (at.Speaking h) = ⊥
+IsHanding {B} {H} at.Parting = ⊥
+IsHanding {B} {H} (at.Over why) = ⊥
+
+-- the place behind what a hijacker was told that has the connection and is to leave: nothing more is asked of it
+abbrev pub left_at : {B H : Type 0} → At B H → At B H
+left_at {B} {H} at.Reading = at.Reading
+left_at {B} {H} at.Asked = at.Asked
+left_at {B} {H} (at.Refused f) = at.Refused f
+left_at {B} {H} (at.Answering framer) = at.Answering framer
+left_at {B} {H} (at.Writing keeps) = at.Writing keeps
+left_at {B} {H} (at.Handing h) = at.Handing h
+left_at {B} {H} at.Refusing = at.Refusing
+left_at {B} {H} (at.Taken h) = at.Over why.Hijacked
+left_at {B} {H} (at.Speaking h) = at.Parting
+left_at {B} {H} at.Parting = at.Parting
+left_at {B} {H} (at.Over reason) = at.Over reason
 
 -- a read may be made
 abbrev pub MayRead : {B H : Type 0} → At B H → Type 0

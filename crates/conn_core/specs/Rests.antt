@@ -1,40 +1,88 @@
 -- What lies in a connection's fields whatever its runner is: safety rests on it.
-use Rattle.std.specs.Prelude.{◌≡◌, ℕ, ◌+◌, ◌<◌, Bool, true, false, List, [], length, ⊤}
-use Rattle.std.specs.Coded.{×_prop, Unit-prop, le_prop, Coded-set, coded_list, coded_ℕ}
+use Rattle.std.specs.Prelude.{◌≡◌, ℕ, ◌+◌, ◌<◌, Bool, true, false, List, [], length, Option, None, Some, ⊤}
+use Rattle.std.specs.Coded.{×_prop, Unit-prop, le_prop, Coded-set, coded_list, coded_ℕ, Π_prop, →_prop}
 use Rattle.reply_framing.specs.declared.types.After.{After}
 use Rattle.reply_framing.specs.declared.types.After.TheVariants.{Keep, Close, Hijack}
 use Rattle.reply_framing.specs.Reply.{body_after}
 use Rattle.message_framing.specs.declared.intake.Intake.{Intake}
 use Rattle.message_framing.specs.declared.standing.Standing.{Standing}
 use Rattle.message_framing.specs.declared.standing.Standing.TheVariants as stands
-use Rattle.message_framing.specs.Intake.{StandsWhole}
+use Rattle.message_framing.specs.Intake.{Fed, StandsWhole}
+use Rattle.message_framing.specs.Request.{Begun}
 use Rattle.message_framing.specs.Held.{StandsWholeAt}
+use Rattle.conn_core.specs.declared.moments.Ending.{Ending}
 use Rattle.conn_core.specs.declared.place.At.{At}
 use Rattle.conn_core.specs.declared.place.At.TheVariants as at
 
--- where the connection goes on behind a reply, a whole request stands, and a number is left for the next one
-abbrev pub GoesOn : After → Intake → ℕ → Type 0
-GoesOn Keep intake calls = StandsWhole intake × ((0 < calls) × (calls < 10000))
-GoesOn Close intake calls = ⊤
-GoesOn Hijack intake calls = 0 < calls
+-- there is none
+abbrev pub IsAbsent : {A : Type 0} → Option A → Type 0
+IsAbsent {A} None = ⊤
+IsAbsent {A} (Some x) = ⊥
+
+-- no reply closes the connection by draining, and no request took too long
+abbrev pub IsUnended : Ending → Type 0
+IsUnended e = IsAbsent e.closing × IsAbsent e.late
+
+-- where the connection goes on behind a reply, a whole request stands, a number is left for the next one, and nothing
+-- ends it. No request took too long where one is answered
+abbrev pub GoesOn : After → Intake → ℕ → Ending → Type 0
+GoesOn Keep intake calls e = StandsWhole intake × ((0 < calls) × ((calls < 10000) × IsUnended e))
+GoesOn Close intake calls e = IsAbsent e.late
+GoesOn Hijack intake calls e = 0 < calls
 
 abbrev pub after_of : Bool → After
 after_of true = Keep
 after_of false = Close
 
-abbrev pub RestsAt : {B H : Type 0} → At B H → Intake → List ℕ → List ℕ → ℕ → Type 0
-RestsAt {B} {H} at.Reading intake held ring calls = (held ≡ []) × ((ring ≡ []) × (calls < 10000))
-RestsAt {B} {H} at.Asked intake held ring calls = (ring ≡ []) × ((calls < 10000) × StandsWhole intake)
-RestsAt {B} {H} (at.Refused f) intake held ring calls = (ring ≡ []) × (calls < 10000)
-RestsAt {B} {H} (at.Answering f) intake held ring calls =
-    (0 < length ring + length f.rest.bytes) × GoesOn (body_after f.rest.rule f.after) intake calls
-RestsAt {B} {H} (at.Writing keeps) intake held ring calls = (0 < length ring) × GoesOn (after_of keeps) intake calls
-RestsAt {B} {H} (at.Handing h) intake held ring calls = (0 < length ring) × (0 < calls)
-RestsAt {B} {H} at.Refusing intake held ring calls = 0 < length ring
-RestsAt {B} {H} (at.Taken h) intake held ring calls = (held ≡ []) × (ring ≡ [])
-RestsAt {B} {H} (at.Speaking h) intake held ring calls = (held ≡ []) × (0 < length ring)
-RestsAt {B} {H} at.Parting intake held ring calls = 0 < length ring
-RestsAt {B} {H} (at.Over why) intake held ring calls = ⊤
+abbrev pub RestsAt : {B H : Type 0} → At B H → Intake → List ℕ → List ℕ → ℕ → Ending → Type 0
+RestsAt {B} {H} at.Reading intake held ring calls e = (held ≡ []) × ((ring ≡ []) × ((calls < 10000) × IsUnended e))
+RestsAt {B} {H} at.Asked intake held ring calls e = (ring ≡ []) × ((calls < 10000) × (StandsWhole intake × IsUnended e))
+RestsAt {B} {H} (at.Refused f) intake held ring calls e = (ring ≡ []) × ((calls < 10000) × IsUnended e)
+RestsAt {B} {H} (at.Answering f) intake held ring calls e =
+    (0 < length ring + length f.rest.bytes) × GoesOn (body_after f.rest.rule f.after) intake calls e
+RestsAt {B} {H} (at.Writing keeps) intake held ring calls e = (0 < length ring) × GoesOn (after_of keeps) intake calls e
+RestsAt {B} {H} (at.Handing h) intake held ring calls e = (0 < length ring) × (0 < calls)
+RestsAt {B} {H} at.Refusing intake held ring calls e = 0 < length ring
+RestsAt {B} {H} (at.Taken h) intake held ring calls e = (held ≡ []) × (ring ≡ [])
+RestsAt {B} {H} (at.Speaking h) intake held ring calls e = (held ≡ []) × (0 < length ring)
+RestsAt {B} {H} at.Parting intake held ring calls e = 0 < length ring
+RestsAt {B} {H} (at.Over why) intake held ring calls e = ⊤
+
+-- a moment is kept exactly where of these bytes, in which nothing whole stands, a request is begun
+abbrev pub BegunAs : Option ℕ → List ℕ → Type 0
+BegunAs None b = ¬ (Begun b)
+BegunAs (Some since) b = Begun b
+
+-- where more of a request is to be read, a moment is kept exactly where one is begun
+abbrev pub Begins : {B H : Type 0} → At B H → Intake → Option ℕ → Type 0
+Begins {B} {H} at.Reading intake begun = (b : List ℕ) → Fed intake b → BegunAs begun b
+Begins {B} {H} at.Asked intake begun = ⊤
+Begins {B} {H} (at.Refused f) intake begun = ⊤
+Begins {B} {H} (at.Answering f) intake begun = ⊤
+Begins {B} {H} (at.Writing keeps) intake begun = ⊤
+Begins {B} {H} (at.Handing h) intake begun = ⊤
+Begins {B} {H} at.Refusing intake begun = ⊤
+Begins {B} {H} (at.Taken h) intake begun = ⊤
+Begins {B} {H} (at.Speaking h) intake begun = ⊤
+Begins {B} {H} at.Parting intake begun = ⊤
+Begins {B} {H} (at.Over why) intake begun = ⊤
+
+pub BegunAs-prop : (o : Option ℕ) (b : List ℕ) → IsProp (BegunAs o b)
+BegunAs-prop None b = →_prop (λ x y. absurd x)
+BegunAs-prop (Some since) b = le_prop
+
+pub Begins-prop : {B H : Type 0} (a : At B H) (intake : Intake) (begun : Option ℕ) → IsProp (Begins a intake begun)
+Begins-prop {B} {H} at.Reading intake begun = Π_prop (λ b. →_prop (BegunAs-prop begun b))
+Begins-prop {B} {H} at.Asked intake begun = Unit-prop
+Begins-prop {B} {H} (at.Refused f) intake begun = Unit-prop
+Begins-prop {B} {H} (at.Answering f) intake begun = Unit-prop
+Begins-prop {B} {H} (at.Writing keeps) intake begun = Unit-prop
+Begins-prop {B} {H} (at.Handing h) intake begun = Unit-prop
+Begins-prop {B} {H} at.Refusing intake begun = Unit-prop
+Begins-prop {B} {H} (at.Taken h) intake begun = Unit-prop
+Begins-prop {B} {H} (at.Speaking h) intake begun = Unit-prop
+Begins-prop {B} {H} at.Parting intake begun = Unit-prop
+Begins-prop {B} {H} (at.Over why) intake begun = Unit-prop
 
 pub StandsWholeAt-prop : (s : Standing) → IsProp (StandsWholeAt s)
 StandsWholeAt-prop stands.Open = λ x y. absurd x
@@ -44,24 +92,32 @@ StandsWholeAt-prop (stands.Whole r) = Unit-prop
 StandsWholeAt-prop (stands.Refused f) = λ x y. absurd x
 StandsWholeAt-prop stands.Lacking = λ x y. absurd x
 
-pub GoesOn-prop : (after : After) (intake : Intake) (calls : ℕ) → IsProp (GoesOn after intake calls)
-GoesOn-prop Keep intake calls = ×_prop (StandsWholeAt-prop intake.standing) (×_prop le_prop le_prop)
-GoesOn-prop Close intake calls = Unit-prop
-GoesOn-prop Hijack intake calls = le_prop
+pub IsAbsent-prop : {A : Type 0} (o : Option A) → IsProp (IsAbsent o)
+IsAbsent-prop {A} None = Unit-prop
+IsAbsent-prop {A} (Some x) = λ x y. absurd x
 
-pub RestsAt-prop : {B H : Type 0} (a : At B H) (intake : Intake) (held ring : List ℕ) (calls : ℕ) → IsProp (RestsAt a intake held ring calls)
-RestsAt-prop {B} {H} at.Reading intake held ring calls =
-    ×_prop (Coded-set (coded_list coded_ℕ) held []) (×_prop (Coded-set (coded_list coded_ℕ) ring []) le_prop)
-RestsAt-prop {B} {H} at.Asked intake held ring calls =
-    ×_prop (Coded-set (coded_list coded_ℕ) ring []) (×_prop le_prop (StandsWholeAt-prop intake.standing))
-RestsAt-prop {B} {H} (at.Refused f) intake held ring calls = ×_prop (Coded-set (coded_list coded_ℕ) ring []) le_prop
-RestsAt-prop {B} {H} (at.Answering f) intake held ring calls =
-    ×_prop le_prop (GoesOn-prop (body_after f.rest.rule f.after) intake calls)
-RestsAt-prop {B} {H} (at.Writing keeps) intake held ring calls = ×_prop le_prop (GoesOn-prop (after_of keeps) intake calls)
-RestsAt-prop {B} {H} (at.Handing h) intake held ring calls = ×_prop le_prop le_prop
-RestsAt-prop {B} {H} at.Refusing intake held ring calls = le_prop
-RestsAt-prop {B} {H} (at.Taken h) intake held ring calls =
+pub IsUnended-prop : (e : Ending) → IsProp (IsUnended e)
+IsUnended-prop e = ×_prop (IsAbsent-prop e.closing) (IsAbsent-prop e.late)
+
+pub GoesOn-prop : (after : After) (intake : Intake) (calls : ℕ) (e : Ending) → IsProp (GoesOn after intake calls e)
+GoesOn-prop Keep intake calls e = ×_prop (StandsWholeAt-prop intake.standing) (×_prop le_prop (×_prop le_prop (IsUnended-prop e)))
+GoesOn-prop Close intake calls e = IsAbsent-prop e.late
+GoesOn-prop Hijack intake calls e = le_prop
+
+pub RestsAt-prop : {B H : Type 0} (a : At B H) (intake : Intake) (held ring : List ℕ) (calls : ℕ) (e : Ending) → IsProp (RestsAt a intake held ring calls e)
+RestsAt-prop {B} {H} at.Reading intake held ring calls e =
+    ×_prop (Coded-set (coded_list coded_ℕ) held []) (×_prop (Coded-set (coded_list coded_ℕ) ring []) (×_prop le_prop (IsUnended-prop e)))
+RestsAt-prop {B} {H} at.Asked intake held ring calls e =
+    ×_prop (Coded-set (coded_list coded_ℕ) ring []) (×_prop le_prop (×_prop (StandsWholeAt-prop intake.standing) (IsUnended-prop e)))
+RestsAt-prop {B} {H} (at.Refused f) intake held ring calls e =
+    ×_prop (Coded-set (coded_list coded_ℕ) ring []) (×_prop le_prop (IsUnended-prop e))
+RestsAt-prop {B} {H} (at.Answering f) intake held ring calls e =
+    ×_prop le_prop (GoesOn-prop (body_after f.rest.rule f.after) intake calls e)
+RestsAt-prop {B} {H} (at.Writing keeps) intake held ring calls e = ×_prop le_prop (GoesOn-prop (after_of keeps) intake calls e)
+RestsAt-prop {B} {H} (at.Handing h) intake held ring calls e = ×_prop le_prop le_prop
+RestsAt-prop {B} {H} at.Refusing intake held ring calls e = le_prop
+RestsAt-prop {B} {H} (at.Taken h) intake held ring calls e =
     ×_prop (Coded-set (coded_list coded_ℕ) held []) (Coded-set (coded_list coded_ℕ) ring [])
-RestsAt-prop {B} {H} (at.Speaking h) intake held ring calls = ×_prop (Coded-set (coded_list coded_ℕ) held []) le_prop
-RestsAt-prop {B} {H} at.Parting intake held ring calls = le_prop
-RestsAt-prop {B} {H} (at.Over why) intake held ring calls = Unit-prop
+RestsAt-prop {B} {H} (at.Speaking h) intake held ring calls e = ×_prop (Coded-set (coded_list coded_ℕ) held []) le_prop
+RestsAt-prop {B} {H} at.Parting intake held ring calls e = le_prop
+RestsAt-prop {B} {H} (at.Over why) intake held ring calls e = Unit-prop

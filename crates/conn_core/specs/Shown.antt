@@ -13,6 +13,8 @@ use Rattle.talk_core.specs.declared.ended.Life.{Life}
 use Rattle.talk_core.specs.declared.ended.Why.{Why}
 use Rattle.conn_core.specs.declared.conn.Conn.{Conn}
 use Rattle.conn_core.specs.declared.inside.Inside.{Inside}
+use Rattle.conn_core.specs.declared.moments.Ending.{Ending}
+use Rattle.conn_core.specs.declared.moments.Moments.{Moments}
 use Rattle.conn_core.specs.declared.place.At.{At}
 use Rattle.conn_core.specs.declared.place.At.TheVariants as at
 use Rattle.conn_core.specs.declared.state.State.{State}
@@ -23,7 +25,8 @@ use Rattle.conn_core.specs.Rests.{after_of}
 -- Over, to how many of them the reply was sent whole (where it is Over, that number is `calls` and says nothing); how
 -- many bytes were read, up to 2^64 - 1; the bytes that are owed; its state; where that is Over, why; where it is
 -- Ready, the refusal that stands, or none where a request does; the bytes that are held, which were read and not fed;
--- what becomes of the connection behind what is owed; and that no memory is wanted to make the rest of it
+-- what becomes of the connection behind what is owed; that no memory is wanted to make the rest of it; of the bytes
+-- that are owed those that are in the ring; what was told of its end; and the moments that it keeps
 pub record Shown : Type 0 where
   pub peer : List ℕ
   pub local : Local
@@ -38,6 +41,9 @@ pub record Shown : Type 0 where
   pub held : List ℕ
   pub after : After
   pub sure : Bool
+  pub ring : List ℕ
+  pub ending : Ending
+  pub moments : Moments
 
 -- how many replies to requests were sent whole at this place, behind so many runs, while the connection isn't over
 abbrev pub replied_at : {B H : Type 0} → At B H → ℕ → ℕ
@@ -66,6 +72,20 @@ owed_at {B} {H} (at.Taken h) ring = ring
 owed_at {B} {H} (at.Speaking h) ring = ring
 owed_at {B} {H} at.Parting ring = ring
 owed_at {B} {H} (at.Over why) ring = []
+
+-- the bytes that are in the ring, of those that are owed
+abbrev pub ring_at : {B H : Type 0} → At B H → List ℕ → List ℕ
+ring_at {B} {H} at.Reading ring = ring
+ring_at {B} {H} at.Asked ring = ring
+ring_at {B} {H} (at.Refused f) ring = ring
+ring_at {B} {H} (at.Answering f) ring = ring
+ring_at {B} {H} (at.Writing keeps) ring = ring
+ring_at {B} {H} (at.Handing h) ring = ring
+ring_at {B} {H} at.Refusing ring = ring
+ring_at {B} {H} (at.Taken h) ring = ring
+ring_at {B} {H} (at.Speaking h) ring = ring
+ring_at {B} {H} at.Parting ring = ring
+ring_at {B} {H} (at.Over why) ring = []
 
 abbrev pub why_at : {B H : Type 0} → At B H → Option Why
 why_at {B} {H} at.Reading = None
@@ -137,6 +157,9 @@ shows {B} {H} {g} p = record {
   held = p.held;
   after = after_at p.at;
   sure = sure_at p.at;
+  ring = ring_at p.at p.ring.items;
+  ending = p.ending;
+  moments = p.moments;
 }
 
 abbrev pub shown : {L B H : Type 0} {g : Ghosts B} → Conn L B H g → Shown

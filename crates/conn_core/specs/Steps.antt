@@ -1,5 +1,5 @@
 -- What the steps of a connection do to the parts that they change. This serves inner contracts alone.
-use Rattle.std.specs.Prelude.{◌≡◌, ◌≢◌, ◌<◌, ℕ, Bool, true, false, List, [], ◌++◌, length, drop, Some, Ok, Err, ⊤}
+use Rattle.std.specs.Prelude.{◌≡◌, ◌≢◌, ◌<◌, ℕ, Bool, true, false, List, [], ◌++◌, length, drop, Option, None, Some, Ok, Err, ⊤}
 use Rattle.std.specs.declared.alloc.AllocError.{AllocError}
 use Rattle.circular_buffer.specs.Buffer.{Buffer}
 use Rattle.hijack_core.specs.Said.{GoesOnAs}
@@ -26,7 +26,10 @@ use Rattle.reply_framing.specs.Owes.{StandsFor}
 use Rattle.reply_framing.specs.Reply.{WholeReply, reply}
 use Rattle.talk_core.specs.declared.ended.Why.TheVariants as why
 use Rattle.talk_core.specs.Tail.{Voice}
-use Rattle.conn_core.specs.Rests.{after_of}
+use Rattle.conn_core.specs.Keeps.{BegunNow}
+use Rattle.conn_core.specs.Moments.{ended_by}
+use Rattle.conn_core.specs.Rests.{after_of, BegunAs}
+use Rattle.conn_core.specs.declared.moments.Late.{Late}
 use Rattle.conn_core.specs.declared.place.At.{At}
 use Rattle.conn_core.specs.declared.place.At.TheVariants as at
 
@@ -274,17 +277,32 @@ EndsOn {B} {H} V (at.Over ended) then ring = ⊤
 
 -- the link took all of the ring: the connection goes on with the bytes held, or is handed to a hijacker that is told
 -- them, or ends; or more of the reply comes
-abbrev pub CompletesTo : {B H : Type 0} → Voice H → At B H → Intake → List ℕ → At B H → Intake → List ℕ → List ℕ → Type 0
-CompletesTo {B} {H} V at.Reading old held then new left ring = (then ≡ at.Reading) × Untouched old held new left × (ring ≡ [])
-CompletesTo {B} {H} V at.Asked old held then new left ring = (then ≡ at.Asked) × Untouched old held new left × (ring ≡ [])
-CompletesTo {B} {H} V (at.Refused f) old held then new left ring = (then ≡ at.Refused f) × Untouched old held new left × (ring ≡ [])
-CompletesTo {B} {H} V (at.Answering f) old held then new left ring = (then ≡ at.Answering f) × Untouched old held new left × (ring ≡ [])
-CompletesTo {B} {H} V (at.Writing true) old held then new left ring =
+abbrev pub CompletesTo : {B H : Type 0} → Option Late → Voice H → At B H → Intake → List ℕ → At B H → Intake → List ℕ → List ℕ → Type 0
+CompletesTo {B} {H} late V at.Reading old held then new left ring = (then ≡ at.Reading) × Untouched old held new left × (ring ≡ [])
+CompletesTo {B} {H} late V at.Asked old held then new left ring = (then ≡ at.Asked) × Untouched old held new left × (ring ≡ [])
+CompletesTo {B} {H} late V (at.Refused f) old held then new left ring = (then ≡ at.Refused f) × Untouched old held new left × (ring ≡ [])
+CompletesTo {B} {H} late V (at.Answering f) old held then new left ring = (then ≡ at.Answering f) × Untouched old held new left × (ring ≡ [])
+CompletesTo {B} {H} late V (at.Writing true) old held then new left ring =
     (fresh : Intake) × Fed fresh [] × FeedsHeld fresh held new left then × (ring ≡ [])
-CompletesTo {B} {H} V (at.Writing false) old held then new left ring = (then ≡ at.Over why.Closed) × Untouched old held new left × (ring ≡ [])
-CompletesTo {B} {H} V (at.Handing h) old held then new left ring = Tells V h held then ring left
-CompletesTo {B} {H} V at.Refusing old held then new left ring = (then ≡ at.Over why.Closed) × Untouched old held new left × (ring ≡ [])
-CompletesTo {B} {H} V (at.Taken h) old held then new left ring = (then ≡ at.Taken h) × Untouched old held new left × (ring ≡ [])
-CompletesTo {B} {H} V (at.Speaking h) old held then new left ring = (then ≡ at.Taken h) × Untouched old held new left × (ring ≡ [])
-CompletesTo {B} {H} V at.Parting old held then new left ring = (then ≡ at.Over why.Hijacked) × Untouched old held new left × (ring ≡ [])
-CompletesTo {B} {H} V (at.Over ended) old held then new left ring = (then ≡ at.Over ended) × Untouched old held new left × (ring ≡ [])
+CompletesTo {B} {H} late V (at.Writing false) old held then new left ring = (then ≡ at.Over why.Closed) × Untouched old held new left × (ring ≡ [])
+CompletesTo {B} {H} late V (at.Handing h) old held then new left ring = Tells V h held then ring left
+CompletesTo {B} {H} late V at.Refusing old held then new left ring = (then ≡ at.Over (ended_by late)) × Untouched old held new left × (ring ≡ [])
+CompletesTo {B} {H} late V (at.Taken h) old held then new left ring = (then ≡ at.Taken h) × Untouched old held new left × (ring ≡ [])
+CompletesTo {B} {H} late V (at.Speaking h) old held then new left ring = (then ≡ at.Taken h) × Untouched old held new left × (ring ≡ [])
+CompletesTo {B} {H} late V at.Parting old held then new left ring = (then ≡ at.Over why.Hijacked) × Untouched old held new left × (ring ≡ [])
+CompletesTo {B} {H} late V (at.Over ended) old held then new left ring = (then ≡ at.Over ended) × Untouched old held new left × (ring ≡ [])
+
+-- the moment at which the request was begun that is to be read at this place, if one was: the one kept, or this one
+abbrev pub BeginsAs : {B H : Type 0} → At B H → Intake → ℕ → Option ℕ → Option ℕ → Type 0
+BeginsAs {B} {H} at.Reading intake now before after =
+    ((b : List ℕ) → Fed intake b → BegunAs after b) × BegunNow now before after
+BeginsAs {B} {H} at.Asked intake now before after = after ≡ None
+BeginsAs {B} {H} (at.Refused f) intake now before after = after ≡ None
+BeginsAs {B} {H} (at.Answering f) intake now before after = after ≡ before
+BeginsAs {B} {H} (at.Writing keeps) intake now before after = after ≡ before
+BeginsAs {B} {H} (at.Handing h) intake now before after = after ≡ before
+BeginsAs {B} {H} at.Refusing intake now before after = after ≡ before
+BeginsAs {B} {H} (at.Taken h) intake now before after = after ≡ before
+BeginsAs {B} {H} (at.Speaking h) intake now before after = after ≡ before
+BeginsAs {B} {H} at.Parting intake now before after = after ≡ before
+BeginsAs {B} {H} (at.Over why) intake now before after = after ≡ before

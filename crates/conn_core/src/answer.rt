@@ -1,20 +1,21 @@
 // A request is run, or a refusal is named, and a reply begins.
-ghost use Rattle.std.specs.Prelude.{◌≡◌, ◌<◌, ◌≤◌, ◌+◌, ◌-◌, ◌^◌, ℕ, List, true, false};
+ghost use Rattle.std.specs.Prelude.{◌≡◌, ◌<◌, ◌≤◌, ◌+◌, ◌-◌, ◌^◌, ℕ, List, true, Some, if◌then◌else◌};
 ghost use Rattle.rack_types.specs.Env.{Pairs};
-ghost use Rattle.rack_types.specs.Request.{Parts};
-ghost use Rattle.rack_env.specs.Environment.{env_pairs};
 ghost use Rattle.rack_outside.specs.Link.{Seen};
-ghost use Rattle.talk_core.specs.Teller.{Teller, reply_of, is_last};
+ghost use Rattle.talk_core.specs.Teller.{Teller, is_last};
 ghost use Rattle.conn_core.specs.Holds.{HoldsBy};
-ghost use Rattle.conn_core.specs.Inner.{runs_of, TellsBy, RunsOnce, TakesUp, work};
+ghost use Rattle.conn_core.specs.Inner.{runs_of, TellsFrom, RunsOnce, TakesUp, work};
+ghost use Rattle.conn_core.specs.Keeps.{Keeps, Refusal, drains_now};
 ghost use Rattle.conn_core.specs.Moves.{NamesFault};
 ghost use Rattle.conn_core.specs.Place.{state_at};
 ghost use Rattle.conn_core.specs.Runs.{RunsBy};
 ghost use Rattle.conn_core.specs.Shown.{shows};
 
-use crate::hijack::hand_on;
+use crate::held::Held;
+use crate::hijack::hand_over;
 use crate::inside::Inside;
 use crate::left::Left;
+use crate::moments::filled;
 use crate::place::{At, put};
 use crate::state::State;
 use crate::steps::{prepare, run};
@@ -26,27 +27,54 @@ use talk_core::Why;
 // The number of the last request, counted from 0.
 const LAST: u64 = 9_999;
 
+// Whether the reply to the request that stands closes by draining: that was told, and no byte is held behind it.
+fn drains(told: u64, held: &Held) -> bool
+    ensures { result ≡ drains_now told held.now }
+{
+    told > 0 && held.bytes().is_empty()
+}
+
+// The number of the request whose reply closes by draining: this one, or as before.
+fn closing(drains: bool, calls: u64, before: Option<u64>) -> Option<u64>
+    ensures { result ≡ (if drains then Some calls else before) }
+{
+    if drains { Some(calls) } else { before }
+}
+
+// Whether this request is the last one.
+fn is_last(closing: Option<u64>, calls: u64) -> bool
+    ensures { result ≡ is_last closing calls }
+{
+    match closing {
+        Some(last) => (calls == LAST) | (calls == last),
+        None => calls == LAST,
+    }
+}
+
 impl<B: Body, H: Hijack + Drop> Inside<B, H> {
     // Runs the request that stands, and begins its reply, or hands the connection to a hijacker. It tells whether the run
     // was made.
-    fn answer<R: Runner<B, H>>(&mut self, runner: &mut R) -> bool
+    fn answer<R: Runner<B, H>>(&mut self, runner: &mut R, now: u64) -> bool
         requires at { self.old.at ≡ At.Asked }
         requires room { R.runs runner.old < 2 ^ 64 - 1 }
         ensures holds { (T : Teller H) (s : Seen)
-            → ((r : Parts) → T self.old.calls r ≡ reply_of (R.answer runner.old) (env_pairs r self.old.peer self.old.local) r (is_last None self.old.calls))
+            → TellsFrom T (R.answer runner.old) self.old.local self.old.peer self.new.ending.closing self.old.calls self.new.calls
             → HoldsBy (record { says = H.says; ends = H.ends }) T s self.old → HoldsBy (record { says = H.says; ends = H.ends }) T s self.new }
         ensures any { (T : Teller H) (s : Seen) → HoldsBy (record { says = H.says; ends = H.ends }) T s self.old → RunsBy (record { says = H.says; ends = H.ends }) T self.old.calls s self.new }
-        ensures runs { RunsOnce result (shows self.old) (shows self.new) }
+        ensures runs { RunsOnce now result (shows self.old) (shows self.new) }
         ensures counts { R.runs runner.new ≡ R.runs runner.old + runs_of result }
         ensures steady { R.steady ≡ true → (ps : Pairs) (input : List ℕ) → R.answer runner.new ps input ≡ R.answer runner.old ps input }
     {
         match prepare(&mut self.intake, &mut self.env, &self.peer, &self.local) {
             Ok(ask) => {
-                let last = self.calls == LAST;
+                let drains = drains(self.ending.told, &self.held);
+                self.ending.closing = closing(drains, self.calls, self.ending.closing);
+                let last = is_last(self.ending.closing, self.calls);
                 let at = run(self.alloc, runner, &mut self.env, ask, last);
                 self.calls += 1;
-                let at = hand_on(at, &mut self.held, &mut self.ring);
+                let at = hand_over(at, &mut self.held, &mut self.ring);
                 put(&mut self.at, at);
+                self.moments.filled = filled(!self.ring.is_empty(), now, self.moments.filled);
                 true
             }
             Err(_) => {
@@ -57,24 +85,27 @@ impl<B: Body, H: Hijack + Drop> Inside<B, H> {
     }
 
     // Begins the reply that names a refusal.
-    fn refuse(&mut self, fault: Fault)
+    fn refuse(&mut self, fault: Fault, now: u64)
         requires { self.old.at ≡ At.Refused fault }
         ensures holds { (T : Teller H) (s : Seen) → HoldsBy (record { says = H.says; ends = H.ends }) T s self.old → HoldsBy (record { says = H.says; ends = H.ends }) T s self.new }
         ensures names { NamesFault fault (shows self.old) (shows self.new) }
+        ensures keeps { Keeps now (Refusal fault) (shows self.old) (shows self.new) }
     {
         put_fault(fault, &mut self.ring);
+        self.moments.filled = now;
         put(&mut self.at, At::Refusing);
     }
 
     // Takes up the request or the refusal that stands.
-    pub(crate) fn start<R: Runner<B, H>>(&mut self, runner: &mut R, left: &mut Left)
+    pub(crate) fn start<R: Runner<B, H>>(&mut self, runner: &mut R, left: &mut Left, now: u64)
         requires ready { state_at self.old.at ≡ State.Ready }
         requires left { 0 < left.old.runs }
         requires room { R.runs runner.old < 2 ^ 64 - 1 }
-        ensures holds { (T : Teller H) (s : Seen) → TellsBy T (R.answer runner.old) self.old.local self.old.peer
+        ensures holds { (T : Teller H) (s : Seen)
+            → TellsFrom T (R.answer runner.old) self.old.local self.old.peer self.new.ending.closing self.old.calls self.new.calls
             → HoldsBy (record { says = H.says; ends = H.ends }) T s self.old → HoldsBy (record { says = H.says; ends = H.ends }) T s self.new }
         ensures any { (T : Teller H) (s : Seen) → HoldsBy (record { says = H.says; ends = H.ends }) T s self.old → RunsBy (record { says = H.says; ends = H.ends }) T self.old.calls s self.new }
-        ensures takes { TakesUp (left.old.runs - left.new.runs) (shows self.old) (shows self.new) }
+        ensures takes { TakesUp now (left.old.runs - left.new.runs) (shows self.old) (shows self.new) }
         ensures left { left.new ≡ record left.old { runs = left.new.runs } }
         ensures few { left.new.runs ≤ left.old.runs }
         ensures falls { work left.new self.new.at < work left.old self.old.at }
@@ -84,10 +115,10 @@ impl<B: Body, H: Hijack + Drop> Inside<B, H> {
         match &self.at {
             At::Refused(fault) => {
                 let fault = *fault;
-                self.refuse(fault);
+                self.refuse(fault, now);
             }
             _ => {
-                if self.answer(runner) {
+                if self.answer(runner, now) {
                     left.runs -= 1;
                 }
             }

@@ -1,12 +1,14 @@
 // A connection.
-ghost use Rattle.std.specs.Prelude.{◌≡◌, ◌≢◌, ◌<◌, ◌+◌, ◌-◌, ◌^◌, ◌≤◌, ◌↔◌, [], ◌∷◌, ℕ, List, true, false, None, Some, IfOk, IfErr, IsTrue};
+ghost use Rattle.std.specs.Prelude.{◌≡◌, ◌≢◌, ◌<◌, ◌+◌, ◌-◌, ◌^◌, ◌≤◌, ◌↔◌, [], ◌∷◌, ℕ, List, true, false, None, Some, is_some, IfOk, IfErr, IsTrue};
 ghost use Rattle.rack_types.specs.Env.{Pairs};
 ghost use Rattle.rack_types.specs.Limits.{stock_limits};
 ghost use Rattle.talk_core.specs.Ended.{Shows, IsEnded, StandsForTalk};
 ghost use Rattle.talk_core.specs.Teller.{Stacks, Teller, last_phase};
 ghost use Rattle.conn_core.specs.Calls.{Feeds, MayFeed, Turns, Flushes};
 ghost use Rattle.conn_core.specs.Holds.{Holds, HoldsWith};
+ghost use Rattle.conn_core.specs.Keeps.{reaching};
 ghost use Rattle.conn_core.specs.Moves.{IsOwing};
+ghost use Rattle.conn_core.specs.Owner.{BeginsRightly};
 ghost use Rattle.conn_core.specs.Plain.{IsPlainEnd};
 ghost use Rattle.conn_core.specs.Runs.{RunsOn};
 ghost use Rattle.conn_core.specs.Shown.{shown, number_of, link_of};
@@ -14,8 +16,10 @@ ghost use Rattle.conn_core.specs.Opened.{opened, IsUnopened, IsFresh};
 
 use crate::held::Held;
 use crate::inside::Inside;
+use crate::moments::{Ending, Moments};
 use crate::place::{At, close, is_saying, state_at};
 use crate::state::{Next, State};
+use crate::steps::begins;
 use circular_buffer::HeapCircularBuffer;
 use hijack_core::Hijack;
 use message_framing::Intake;
@@ -62,13 +66,12 @@ impl<L: Link, B: Body, H: Hijack + Drop> Conn<L, B, H> {
     ) -> Result<Conn<L, B, H>, Ended<L>>
         requires limits { limits ≡ stock_limits }
         requires fresh { Shows (L.seen link) peer [] [] false }
-        ensures opened { IfOk result (λ c. (shown c ≡ opened peer local phase) × (number_of c ≡ number) × (link_of c ≡ link)) }
+        ensures opened { IfOk result (λ c. (shown c ≡ opened peer local phase now) × (number_of c ≡ number) × (link_of c ≡ link)) }
         ensures holds { IfOk result (λ c. (S : Stacks H) → Holds L.seen (record { says = H.says; ends = H.ends }) S c) }
         ensures refused { IfErr result (λ e. IsUnopened number link e) }
         ensures ended { IfErr result (λ e. (S : Stacks H) → IsEnded L L.seen (record { says = H.says; ends = H.ends }) S local e) }
     {
-        let _now = now;
-        match inside(alloc, peer, local, limits, phase) {
+        match inside(alloc, peer, local, limits, phase, now) {
             Ok(inside) => Ok(Conn {
                 number,
                 link,
@@ -114,6 +117,13 @@ impl<L: Link, B: Body, H: Hijack + Drop> Conn<L, B, H> {
         self.inside.taken
     }
 
+    /// The greatest moment that was handed to a call, in milliseconds.
+    pub fn moment(&self) -> u64
+        ensures { result ≡ (shown self.now).moments.last }
+    {
+        self.inside.moments.last
+    }
+
     /// Whether bytes are owed, of a reply or of what a hijacker said.
     pub fn wants_write(&self) -> bool
         ensures bytes { IsTrue result ↔ ((shown self.now).owed ≢ []) }
@@ -136,13 +146,13 @@ impl<L: Link, B: Body, H: Hijack + Drop> Conn<L, B, H> {
     pub fn feed(&mut self, now: u64) -> Next
         requires reading { MayFeed (shown self.old) }
         ensures number { number_of self.new ≡ number_of self.old }
-        ensures feeds { Feeds result (shown self.old) (shown self.new) (L.seen (link_of self.old)) (L.seen (link_of self.new)) }
+        ensures feeds { Feeds now result (reaching now (shown self.old)) (shown self.new) (L.seen (link_of self.old)) (L.seen (link_of self.new)) }
         ensures any { (T : Teller H) → HoldsWith L.seen (record { says = H.says; ends = H.ends }) T self.old → HoldsWith L.seen (record { says = H.says; ends = H.ends }) T self.new }
         ensures holds { (S : Stacks H) → Holds L.seen (record { says = H.says; ends = H.ends }) S self.old → Holds L.seen (record { says = H.says; ends = H.ends }) S self.new }
     {
-        let _now = now;
         let inside: &mut Inside<B, H> = &mut self.inside;
-        inside.feed(&mut self.link)
+        inside.moments.reach(now);
+        inside.feed(&mut self.link, now)
     }
 
     /// Answers requests one behind the other: each is run once, its reply is framed into the ring and
@@ -165,7 +175,7 @@ impl<L: Link, B: Body, H: Hijack + Drop> Conn<L, B, H> {
         requires ready { (shown self.old).state ≡ State.Ready }
         requires room { R.runs runner.old ≤ 2 ^ 64 - 11 }
         ensures number { number_of self.new ≡ number_of self.old }
-        ensures turns { Turns result (shown self.old) (shown self.new) (L.seen (link_of self.old)) (L.seen (link_of self.new)) }
+        ensures turns { Turns now result (reaching now (shown self.old)) (shown self.new) (L.seen (link_of self.old)) (L.seen (link_of self.new)) }
         ensures runs { R.runs runner.new + (shown self.old).calls ≡ R.runs runner.old + (shown self.new).calls }
         ensures steady { R.steady ≡ true → (ps : Pairs) (input : List ℕ) → R.answer runner.new ps input ≡ R.answer runner.old ps input }
         ensures any { (T : Teller H) → HoldsWith L.seen (record { says = H.says; ends = H.ends }) T self.old → RunsOn L.seen (record { says = H.says; ends = H.ends }) T (shown self.old).calls self.new }
@@ -173,9 +183,9 @@ impl<L: Link, B: Body, H: Hijack + Drop> Conn<L, B, H> {
             → ((ps : Pairs) (input : List ℕ) → S (last_phase (shown self.old).lives) ps input ≡ R.answer runner.old ps input)
             → Holds L.seen (record { says = H.says; ends = H.ends }) S self.old → Holds L.seen (record { says = H.says; ends = H.ends }) S self.new }
     {
-        let _now = now;
         let inside: &mut Inside<B, H> = &mut self.inside;
-        inside.turn(&mut self.link, runner)
+        inside.moments.reach(now);
+        inside.turn(&mut self.link, runner, now)
     }
 
     /// Fills the ring from the reply that is under way and writes all of it, at most 16 times. Where the
@@ -190,13 +200,13 @@ impl<L: Link, B: Body, H: Hijack + Drop> Conn<L, B, H> {
     pub fn flush(&mut self, now: u64) -> Next
         requires owes { IsOwing (shown self.old) }
         ensures number { number_of self.new ≡ number_of self.old }
-        ensures flushes { Flushes result (shown self.old) (shown self.new) (L.seen (link_of self.old)) (L.seen (link_of self.new)) }
+        ensures flushes { Flushes now result (reaching now (shown self.old)) (shown self.new) (L.seen (link_of self.old)) (L.seen (link_of self.new)) }
         ensures any { (T : Teller H) → HoldsWith L.seen (record { says = H.says; ends = H.ends }) T self.old → HoldsWith L.seen (record { says = H.says; ends = H.ends }) T self.new }
         ensures holds { (S : Stacks H) → Holds L.seen (record { says = H.says; ends = H.ends }) S self.old → Holds L.seen (record { says = H.says; ends = H.ends }) S self.new }
     {
-        let _now = now;
         let inside: &mut Inside<B, H> = &mut self.inside;
-        inside.flush(&mut self.link)
+        inside.moments.reach(now);
+        inside.flush(&mut self.link, now)
     }
 
     /// Hands back what the connection was.
@@ -205,9 +215,9 @@ impl<L: Link, B: Body, H: Hijack + Drop> Conn<L, B, H> {
         ensures why { (shown self).why ≡ Some result.why }
         ensures given { (result.number ≡ number_of self) × (result.link ≡ link_of self) × (result.calls ≡ (shown self).calls)
             × (result.lives.items ≡ (shown self).lives) }
-        ensures rest { (result.told ≡ 0) × (result.closing ≡ None) }
+        ensures rest { (result.told ≡ (shown self).ending.told) × (result.closing ≡ (shown self).ending.closing) }
         ensures ended { (S : Stacks H) → Holds L.seen (record { says = H.says; ends = H.ends }) S self → IsEnded L L.seen (record { says = H.says; ends = H.ends }) S (shown self).local result }
-        ensures plainly { (S : Stacks H) → Holds L.seen (record { says = H.says; ends = H.ends }) S self → IsPlainEnd L L.seen (record { says = H.says; ends = H.ends }) S (shown self).local result }
+        ensures plainly { (S : Stacks H) → Holds L.seen (record { says = H.says; ends = H.ends }) S self → IsPlainEnd L L.seen (record { says = H.says; ends = H.ends }) S (shown self).local (is_some (shown self).ending.late) result }
     {
         let Conn {
             number,
@@ -225,6 +235,8 @@ impl<L: Link, B: Body, H: Hijack + Drop> Conn<L, B, H> {
             ring: _,
             calls,
             taken: _,
+            ending,
+            moments: _,
             at,
         } = Box::into_inner(inside);
         match at {
@@ -233,8 +245,8 @@ impl<L: Link, B: Body, H: Hijack + Drop> Conn<L, B, H> {
                 link,
                 lives,
                 calls,
-                told: 0,
-                closing: None,
+                told: ending.told,
+                closing: ending.closing,
                 why,
             },
             at => {
@@ -259,8 +271,10 @@ impl<L: Link, B: Body, H: Hijack + Drop> Conn<L, B, H> {
 
     /// A law: whatever was done with it, a connection that isn't over stands for its talk.
     pub fn stands(&self)
-        ensures { (S : Stacks H) → (shown self.now).state ≢ State.Over → Holds L.seen (record { says = H.says; ends = H.ends }) S self.now
-            → StandsForTalk (L.seen (link_of self.now)) (record { says = H.says; ends = H.ends }) S (shown self.now).local (shown self.now).lives (shown self.now).calls None false }
+        ensures talk { (S : Stacks H) → (shown self.now).state ≢ State.Over → Holds L.seen (record { says = H.says; ends = H.ends }) S self.now
+            → StandsForTalk (L.seen (link_of self.now)) (record { says = H.says; ends = H.ends }) S (shown self.now).local (shown self.now).lives (shown self.now).calls
+            (shown self.now).ending.closing (is_some (shown self.now).ending.late) }
+        ensures begun { (S : Stacks H) → Holds L.seen (record { says = H.says; ends = H.ends }) S self.now → BeginsRightly (L.seen (link_of self.now)) (shown self.now) }
     {
         let _state = self.state();
     }
@@ -273,9 +287,10 @@ fn inside<B: Body, H: Drop>(
     local: Local,
     limits: Limits,
     phase: u32,
+    now: u64,
 ) -> Result<Box<Inside<B, H>>, NoMemory>
     requires limits { limits ≡ stock_limits }
-    ensures { IfOk result (λ inside. IsFresh peer local phase inside.value) }
+    ensures { IfOk result (λ inside. IsFresh peer local phase now inside.value) }
 {
     let intake = Intake::new(alloc, limits)?;
     let held = Held::new(alloc)?;
@@ -283,6 +298,8 @@ fn inside<B: Body, H: Drop>(
     let mut lives = Vec::with_capacity(alloc, LIVES)?;
     lives.push(Life { first: 0, phase }).unwrap();
     let env = Env::new(alloc, Input::new(Bytes::new(Vec::new(alloc))));
+    let at = At::Reading;
+    let begun = begins(&at, &intake, None, now);
     match Box::new(
         alloc,
         Inside {
@@ -296,7 +313,13 @@ fn inside<B: Body, H: Drop>(
             ring,
             calls: 0,
             taken: 0,
-            at: At::Reading,
+            ending: Ending {
+                told: 0,
+                closing: None,
+                late: None,
+            },
+            moments: Moments::new(now, begun),
+            at,
         },
     ) {
         Ok(inside) => Ok(inside),
@@ -320,6 +343,8 @@ fn let_go<B: Body, H: Drop>(inside: Inside<B, H>) {
         ring: _,
         calls: _,
         taken: _,
+        ending: _,
+        moments: _,
         at,
     } = inside;
     close(at);

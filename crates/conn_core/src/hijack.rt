@@ -1,9 +1,10 @@
 // A hijacker is told what came.
 ghost use Rattle.std.specs.Prelude.{◌≡◌, [], if◌then◌else◌};
+ghost use Rattle.conn_core.specs.Place.{IsHearing, left_at};
 ghost use Rattle.conn_core.specs.Steps.{Tells, TellsEnd, HandsOn, EndsOn};
 
 use crate::held::Held;
-use crate::place::At;
+use crate::place::{At, is_handing};
 use circular_buffer::HeapCircularBuffer;
 use hijack_core::Hijack;
 use rack_types::Body;
@@ -23,6 +24,25 @@ pub(crate) fn hand_on<B: Body, H: Hijack + Drop>(
     match at {
         At::Handing(hijacker) | At::Taken(hijacker) => tell(hijacker, held, ring),
         at => at,
+    }
+}
+
+// The same of a place at which one takes the connection over, which is left as it is where none does.
+pub(crate) fn hand_over<B: Body, H: Hijack + Drop>(
+    at: At<B, H>,
+    held: &mut Held,
+    ring: &mut HeapCircularBuffer<u8>,
+) -> At<B, H>
+    requires empty { ring.old.items ≡ [] }
+    requires room { ring.old.capacity ≡ 65536 }
+    requires untaken { ¬ (IsHearing at) }
+    ensures hands { HandsOn (record { says = H.says; ends = H.ends }) at held.old ring.old.items result ring.new.items held.new }
+    ensures room { ring.new.capacity ≡ ring.old.capacity }
+{
+    if is_handing(&at) {
+        hand_on(at, held, ring)
+    } else {
+        at
     }
 }
 
@@ -80,6 +100,23 @@ fn part<B: Body, H>(silent: bool) -> At<B, H>
         At::Over(Why::Hijacked)
     } else {
         At::Parting
+    }
+}
+
+// Tells the hijacker at this place, which has the connection, that the server drains. It ends behind what it said.
+pub(crate) fn let_leave<B: Body, H: Hijack + Drop>(at: At<B, H>) -> At<B, H>
+    ensures { result ≡ left_at at }
+{
+    match at {
+        At::Taken(mut hijacker) => {
+            hijacker.leave();
+            At::Over(Why::Hijacked)
+        }
+        At::Speaking(mut hijacker) => {
+            hijacker.leave();
+            At::Parting
+        }
+        at => at,
     }
 }
 

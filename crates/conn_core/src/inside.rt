@@ -1,8 +1,9 @@
 // All of a connection but its link.
 ghost use Rattle.std.specs.Prelude.{◌≡◌};
-ghost use Rattle.conn_core.specs.Rests.{RestsAt, RestsAt-prop};
+ghost use Rattle.conn_core.specs.Rests.{RestsAt, RestsAt-prop, Begins, Begins-prop};
 
 use crate::held::Held;
+use crate::moments::{Ending, Moments};
 use crate::place::At;
 use circular_buffer::HeapCircularBuffer;
 use message_framing::Intake;
@@ -26,7 +27,10 @@ pub(crate) struct Inside<B: Body, H> {
     // How many requests were run, and how many bytes were read.
     pub(crate) calls: u64,
     pub(crate) taken: u64,
+    pub(crate) ending: Ending,
+    pub(crate) moments: Moments,
     pub(crate) at: At<B, H>,
     pub(crate) ghost room: { ring.capacity ≡ 65536 },
-    pub(crate) ghost rests: { RestsAt at intake held ring.items calls } by { RestsAt-prop at intake held ring.items calls },
+    pub(crate) ghost rests: { RestsAt at intake held ring.items calls ending } by { RestsAt-prop at intake held ring.items calls ending },
+    pub(crate) ghost begins: { Begins at intake moments.begun } by { Begins-prop at intake moments.begun },
 }

@@ -9,6 +9,7 @@ mod held;
 mod hijack;
 mod inside;
 mod left;
+mod moments;
 mod owner;
 mod place;
 mod read;
@@ -22,5 +23,5 @@ mod tests;
 mod turn;
 
 pub use conn::Conn;
-pub use state::{Next, State};
+pub use state::{Next, State, Tick, Told};
 pub use talk_core::{Ended, IdleBy, Life, Why};

@@ -1,21 +1,53 @@
-// What its owner does with a connection beside moving it on: it ends it, places it anew, or lends its link out.
-ghost use Rattle.std.specs.Prelude.{◌≡◌, ◌≢◌, ◌≤◌, ◌↔◌, IsTrue, false};
+// What its owner does with a connection beside moving it on: it ends it, places it anew, tells it the time or a drain, or
+// lends its link out.
+ghost use Rattle.std.specs.Prelude.{◌≡◌, ◌≢◌, ◌<◌, ◌≤◌, ◌↔◌, [], ◌∷◌, IsTrue, false};
 ghost use Rattle.rack_outside.specs.Link.{Seen, IsTouched};
 ghost use Rattle.rack_outside.specs.Told.{Rose};
+ghost use Rattle.talk_core.specs.Ended.{AreLives};
 ghost use Rattle.talk_core.specs.Tail.{Voice};
 ghost use Rattle.talk_core.specs.Teller.{Stacks, Teller, last_phase};
 ghost use Rattle.conn_core.specs.Holds.{Holds, HoldsBy, HoldsWith};
-ghost use Rattle.conn_core.specs.Owner.{EndedAs, EndsAnyTime, IsUnread, PlacedIn};
+ghost use Rattle.conn_core.specs.Keeps.{reaching};
+ghost use Rattle.conn_core.specs.Moments.{Passed};
+ghost use Rattle.conn_core.specs.Owner.{ended_as, EndsAnyTime, IsUnread, PlacedIn, Ticks, drained, drained_in, DrainTells};
 ghost use Rattle.conn_core.specs.Shown.{shows, shown, number_of, link_of};
 
 use crate::conn::Conn;
+use crate::hijack::let_leave;
 use crate::inside::Inside;
-use crate::place::{At, is_over, is_saying, put};
-use crate::state::State;
+use crate::moments::Late;
+use crate::place::{At, is_over, is_saying, put, state_at};
+use crate::state::{State, Tick, Told};
 use hijack_core::Hijack;
 use rack_outside::{Link, Touch, Watcher};
-use rack_types::Body;
-use talk_core::{Life, Why};
+use rack_types::{Body, Fault};
+use reply_framing::put_fault;
+use std::mem;
+use talk_core::{IdleBy, Life, Why};
+
+// The limits of a connection that waits, in milliseconds.
+const IDLE: u64 = 20_000;
+
+const REQUEST: u64 = 30_000;
+
+const WRITE: u64 = 10_000;
+
+// Places the last life in this phase.
+fn put_phase(lives: &mut Vec<Life>, phase: u32)
+    ensures { AreLives lives.old.items → lives.new.items ≡ record { first = 0; phase = phase } ∷ [] }
+{
+    let count = lives.len();
+    if count > 0 {
+        lives[count - 1].phase = phase;
+    }
+}
+
+// Whether so long passed.
+fn passed(since: u64, limit: u64, now: u64) -> bool
+    ensures { IsTrue result ↔ Passed since limit now }
+{
+    now >= since && now - since >= limit
+}
 
 impl<B: Body, H: Drop> Inside<B, H> {
     // Ends it at once, and closes the body of a reply that is under way.
@@ -23,7 +55,7 @@ impl<B: Body, H: Drop> Inside<B, H> {
         requires live { (shows self.old).state ≢ State.Over }
         requires any { EndsAnyTime why }
         ensures holds { (V : Voice H) (T : Teller H) (s : Seen) → HoldsBy V T s self.old → HoldsBy V T s self.new }
-        ensures ends { EndedAs why (shows self.old) (shows self.new) }
+        ensures ends { shows self.new ≡ ended_as why (shows self.old) }
     {
         put(&mut self.at, At::Over(why));
     }
@@ -33,7 +65,7 @@ impl<B: Body, H: Drop> Inside<B, H> {
         requires unread { IsUnread (shows self.old) }
         requires level { 1 ≤ level }
         ensures holds { (V : Voice H) (T : Teller H) (s : Seen) → HoldsBy V T s self.old → HoldsBy V T s self.new }
-        ensures ends { EndedAs (Why.Unread level) (shows self.old) (shows self.new) }
+        ensures ends { shows self.new ≡ ended_as (Why.Unread level) (shows self.old) }
     {
         put(&mut self.at, At::Over(Why::Unread { level }));
     }
@@ -44,9 +76,118 @@ impl<B: Body, H: Drop> Inside<B, H> {
         ensures holds { (V : Voice H) (T : Teller H) (s : Seen) → HoldsBy V T s self.old → HoldsBy V T s self.new }
         ensures placed { PlacedIn phase (shows self.old) (shows self.new) }
     {
-        let lives = self.lives.len();
-        if lives > 0 {
-            self.lives[lives - 1].phase = phase;
+        put_phase(&mut self.lives, phase);
+        self.ending.told = 0;
+    }
+
+    // Compares a moment with those that are kept.
+    fn tick(&mut self, now: u64) -> Tick
+        requires live { (shows self.old).state ≢ State.Over }
+        ensures holds { (V : Voice H) (T : Teller H) (s : Seen) → HoldsBy V T s self.old → HoldsBy V T s self.new }
+        ensures ticks { Ticks result now (shows self.old) (shows self.new) }
+    {
+        match self.at {
+            At::Reading => self.tick_reading(now),
+            _ => self.tick_writing(now),
+        }
+    }
+
+    // The same while requests are read.
+    fn tick_reading(&mut self, now: u64) -> Tick
+        requires { self.old.at ≡ At.Reading }
+        ensures holds { (V : Voice H) (T : Teller H) (s : Seen) → HoldsBy V T s self.old → HoldsBy V T s self.new }
+        ensures ticks { Ticks result now (shows self.old) (shows self.new) }
+    {
+        match self.moments.begun {
+            Some(since) => if passed(since, REQUEST, now) {
+                put_fault(Fault::T1, &mut self.ring);
+                self.ending.late = Some(Late { since, now });
+                self.moments.filled = now;
+                put(&mut self.at, At::Refusing);
+                Tick::Write
+            } else {
+                Tick::Still
+            },
+            None => {
+                let since = self.moments.quiet();
+                if passed(since, IDLE, now) {
+                    put(
+                        &mut self.at,
+                        At::Over(Why::Idle(IdleBy::Clock { since, now })),
+                    );
+                    Tick::Over
+                } else {
+                    Tick::Still
+                }
+            }
+        }
+    }
+
+    // And while bytes may be in the ring.
+    fn tick_writing(&mut self, now: u64) -> Tick
+        requires live { (shows self.old).state ≢ State.Over }
+        requires writes { (shows self.old).state ≢ State.Reading }
+        ensures holds { (V : Voice H) (T : Teller H) (s : Seen) → HoldsBy V T s self.old → HoldsBy V T s self.new }
+        ensures ticks { Ticks result now (shows self.old) (shows self.new) }
+    {
+        let since = self.moments.stuck();
+        if !self.ring.is_empty() && passed(since, WRITE, now) {
+            put(&mut self.at, At::Over(Why::Stalled { since, now }));
+            Tick::Over
+        } else {
+            Tick::Still
+        }
+    }
+}
+
+impl<B: Body, H: Hijack + Drop> Inside<B, H> {
+    // Tells it that the server drains.
+    fn tell_drain(&mut self, level: u64) -> Told
+        requires level { 1 ≤ level }
+        ensures holds { (T : Teller H) (s : Seen) → HoldsBy (record { says = H.says; ends = H.ends }) T s self.old → HoldsBy (record { says = H.says; ends = H.ends }) T s self.new }
+        ensures leaves { shows self.new ≡ drained level (shows self.old) }
+        ensures tells { DrainTells result (shows self.new) }
+    {
+        self.ending.told = level;
+        if self.taken > 0 {
+            self.drain(level);
+        }
+        self.told()
+    }
+
+    // Ends it where it has begun nothing, or a hijacker has it, by draining of this level, which was told.
+    fn drain(&mut self, level: u64)
+        requires level { (1 ≤ level) × (self.old.ending.told ≡ level) }
+        requires read { 0 < self.old.taken }
+        ensures holds { (T : Teller H) (s : Seen) → HoldsBy (record { says = H.says; ends = H.ends }) T s self.old → HoldsBy (record { says = H.says; ends = H.ends }) T s self.new }
+        ensures leaves { shows self.new ≡ drained_in (shows self.old).state level (shows self.old) }
+        ensures taken { self.new.taken ≡ self.old.taken }
+    {
+        match state_at(&self.at) {
+            State::Reading => match self.moments.begun {
+                Some(_) => {}
+                None => put(&mut self.at, At::Over(Why::Idle(IdleBy::Drain { level }))),
+            },
+            State::Hijacked => {
+                let at = let_leave(mem::replace(&mut self.at, At::Refusing));
+                put(&mut self.at, at);
+            }
+            State::Ready | State::Answering | State::Over => {}
+        }
+    }
+
+    // What the telling of a drain left.
+    fn told(&self) -> Told
+        ensures { DrainTells result (shows self.now) }
+    {
+        if is_over(&self.at) {
+            Told::Over
+        } else if self.taken == 0 {
+            Told::Unread
+        } else if is_saying(&self.at) {
+            Told::Write
+        } else {
+            Told::Stays
         }
     }
 }
@@ -78,8 +219,8 @@ impl<L: Link, B: Body, H: Hijack + Drop> Conn<L, B, H> {
         self.inside.taken == 0 && !is_over(&self.inside.at)
     }
 
-    /// Places it anew, in this phase: its next request is answered by the stack of that phase. It needs that no byte
-    /// was ever read. It takes no memory.
+    /// Places it anew, in this phase: its next request is answered by the stack of that phase, and it was told no
+    /// drain. It needs that no byte was ever read. It takes no memory.
     pub fn place(&mut self, phase: u32)
         requires unread { IsUnread (shown self.old) }
         ensures number { number_of self.new ≡ number_of self.old }
@@ -92,6 +233,48 @@ impl<L: Link, B: Body, H: Hijack + Drop> Conn<L, B, H> {
         inside.place(phase);
     }
 
+    /// Compares this moment, in milliseconds, with those that are kept, and answers what it left. It needs that the
+    /// connection isn't over. It takes no memory.
+    ///
+    /// Where bytes are in the ring and for 10,000 ms the link took none, the connection ends stalled: since the call
+    /// in which the link last took a byte, or in which bytes first came into the ring after it was last empty,
+    /// whichever is later. A request that was begun and for 30,000 ms did not become whole is answered by 408
+    /// (RFC 9110, section 15.5.9), which is then owed, and the connection ends behind it. One that reads and has
+    /// begun nothing ends idle where for 20,000 ms nothing was sent: since the call in which the link took the last
+    /// byte of the last reply, or since its opening.
+    pub fn tick(&mut self, now: u64) -> Tick
+        requires live { (shown self.old).state ≢ State.Over }
+        ensures number { number_of self.new ≡ number_of self.old }
+        ensures link { link_of self.new ≡ link_of self.old }
+        ensures ticks { Ticks result now (reaching now (shown self.old)) (shown self.new) }
+        ensures any { (V : Voice H) (T : Teller H) → HoldsWith L.seen V T self.old → HoldsWith L.seen V T self.new }
+        ensures holds { (V : Voice H) (S : Stacks H) → Holds L.seen V S self.old → Holds L.seen V S self.new }
+    {
+        let inside: &mut Inside<B, H> = &mut self.inside;
+        inside.moments.reach(now);
+        inside.tick(now)
+    }
+
+    /// Tells it that the server drains, at this level, which is at least 1. It acts by where the connection is now, and
+    /// may be told again. It takes no memory.
+    ///
+    /// One of which no byte was ever read stays as it is, for its owner to place it anew or to end it unread. One that
+    /// reads and has begun nothing ends idle. One that a hijacker has ends, behind what is owed: the hijacker is told
+    /// to leave. Any other answers what it was asked; the reply to a request that is run from now on closes it, unless
+    /// bytes are held behind that request.
+    pub fn tell_drain(&mut self, level: u64) -> Told
+        requires level { 1 ≤ level }
+        ensures number { number_of self.new ≡ number_of self.old }
+        ensures link { link_of self.new ≡ link_of self.old }
+        ensures leaves { shown self.new ≡ drained level (shown self.old) }
+        ensures tells { DrainTells result (shown self.new) }
+        ensures any { (T : Teller H) → HoldsWith L.seen (record { says = H.says; ends = H.ends }) T self.old → HoldsWith L.seen (record { says = H.says; ends = H.ends }) T self.new }
+        ensures holds { (S : Stacks H) → Holds L.seen (record { says = H.says; ends = H.ends }) S self.old → Holds L.seen (record { says = H.says; ends = H.ends }) S self.new }
+    {
+        let inside: &mut Inside<B, H> = &mut self.inside;
+        inside.tell_drain(level)
+    }
+
     /// Ends it at once, where it has to be let go unread, by draining of this level. It needs that no byte was ever
     /// read, and a level of at least 1. It takes no memory.
     pub fn end_unread(&mut self, level: u64)
@@ -99,7 +282,7 @@ impl<L: Link, B: Body, H: Hijack + Drop> Conn<L, B, H> {
         requires level { 1 ≤ level }
         ensures number { number_of self.new ≡ number_of self.old }
         ensures link { link_of self.new ≡ link_of self.old }
-        ensures ends { EndedAs (Why.Unread level) (shown self.old) (shown self.new) }
+        ensures ends { shown self.new ≡ ended_as (Why.Unread level) (shown self.old) }
         ensures any { (V : Voice H) (T : Teller H) → HoldsWith L.seen V T self.old → HoldsWith L.seen V T self.new }
         ensures holds { (V : Voice H) (S : Stacks H) → Holds L.seen V S self.old → Holds L.seen V S self.new }
     {
@@ -114,7 +297,7 @@ impl<L: Link, B: Body, H: Hijack + Drop> Conn<L, B, H> {
         ensures number { number_of self.new ≡ number_of self.old }
         ensures link { link_of self.new ≡ link_of self.old }
         ensures over { (shown self.old).state ≡ State.Over → shown self.new ≡ shown self.old }
-        ensures ends { (shown self.old).state ≢ State.Over → EndedAs (Why.Halted level) (shown self.old) (shown self.new) }
+        ensures ends { (shown self.old).state ≢ State.Over → shown self.new ≡ ended_as (Why.Halted level) (shown self.old) }
         ensures any { (V : Voice H) (T : Teller H) → HoldsWith L.seen V T self.old → HoldsWith L.seen V T self.new }
         ensures holds { (V : Voice H) (S : Stacks H) → Holds L.seen V S self.old → Holds L.seen V S self.new }
     {
@@ -130,7 +313,7 @@ impl<L: Link, B: Body, H: Hijack + Drop> Conn<L, B, H> {
         requires live { (shown self.old).state ≢ State.Over }
         ensures number { number_of self.new ≡ number_of self.old }
         ensures link { link_of self.new ≡ link_of self.old }
-        ensures ends { EndedAs Why.NoMemory (shown self.old) (shown self.new) }
+        ensures ends { shown self.new ≡ ended_as Why.NoMemory (shown self.old) }
         ensures any { (V : Voice H) (T : Teller H) → HoldsWith L.seen V T self.old → HoldsWith L.seen V T self.new }
         ensures holds { (V : Voice H) (S : Stacks H) → Holds L.seen V S self.old → Holds L.seen V S self.new }
     {

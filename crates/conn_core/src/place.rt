@@ -1,6 +1,6 @@
 // Where a connection is between its steps.
 ghost use Rattle.std.specs.Prelude.{◌≡◌, ◌↔◌, IsTrue};
-ghost use Rattle.conn_core.specs.Place.{IsSaying, state_at};
+ghost use Rattle.conn_core.specs.Place.{IsSaying, IsHanding, state_at};
 
 use crate::state::State;
 use rack_types::{Body, Fault};
@@ -86,6 +86,25 @@ pub(crate) fn is_saying<B: Body, H>(at: &At<B, H>) -> bool
         | At::Speaking(_)
         | At::Parting => true,
         At::Reading | At::Asked | At::Refused(_) | At::Taken(_) | At::Over(_) => false,
+    }
+}
+
+// Whether a hijacker takes the connection over.
+pub(crate) fn is_handing<B: Body, H>(at: &At<B, H>) -> bool
+    ensures { IsTrue result ↔ IsHanding at.now }
+{
+    match at {
+        At::Handing(_) => true,
+        At::Reading
+        | At::Asked
+        | At::Refused(_)
+        | At::Answering(_)
+        | At::Writing(_)
+        | At::Refusing
+        | At::Taken(_)
+        | At::Speaking(_)
+        | At::Parting
+        | At::Over(_) => false,
     }
 }
 

@@ -4,6 +4,7 @@ ghost use Rattle.talk_core.specs.Teller.{Teller};
 ghost use Rattle.conn_core.specs.Calls.{Feeds};
 ghost use Rattle.conn_core.specs.Holds.{HoldsBy};
 ghost use Rattle.conn_core.specs.Inner.{ReadsBy, HearsBy};
+ghost use Rattle.conn_core.specs.Keeps.{Keeps, Read};
 ghost use Rattle.conn_core.specs.Moves.{ReadsOnce};
 ghost use Rattle.conn_core.specs.Place.{IsHearing, MayRead};
 ghost use Rattle.conn_core.specs.Shown.{shows};
@@ -11,9 +12,10 @@ ghost use Rattle.conn_core.specs.Shown.{shows};
 use crate::answers::fed;
 use crate::hijack::{end_on, hand_on};
 use crate::inside::Inside;
+use crate::moments::filled;
 use crate::place::{At, put, state_at};
 use crate::state::{Next, State};
-use crate::steps::feed_held;
+use crate::steps::{begins, feed_held};
 use hijack_core::Hijack;
 use rack_outside::{Link, LinkRead};
 use rack_types::Body;
@@ -22,17 +24,19 @@ use talk_core::Why;
 
 impl<B: Body, H: Hijack + Drop> Inside<B, H> {
     // One read, and what stands then.
-    pub(crate) fn read<L: Link>(&mut self, link: &mut L) -> LinkRead
+    pub(crate) fn read<L: Link>(&mut self, link: &mut L, now: u64) -> LinkRead
         requires { self.old.at ≡ At.Reading }
         ensures holds { (T : Teller H) → HoldsBy (record { says = H.says; ends = H.ends }) T (L.seen link.old) self.old → HoldsBy (record { says = H.says; ends = H.ends }) T (L.seen link.new) self.new }
         ensures reads { ReadsBy result (shows self.old) (shows self.new) (L.seen link.old) (L.seen link.new) }
         ensures once { ReadsOnce result (shows self.old) (shows self.new) (L.seen link.old) (L.seen link.new) }
+        ensures keeps { Keeps now (Read result) (shows self.old) (shows self.new) }
     {
         let read = self.held.read(link);
         match read {
             LinkRead::Bytes(n) => {
                 self.taken = self.taken.saturating_add(n as u64);
                 let at = feed_held(&mut self.intake, &mut self.held);
+                self.moments.begun = begins(&at, &self.intake, self.moments.begun, now);
                 put(&mut self.at, at);
                 LinkRead::Bytes(n)
             }
@@ -49,11 +53,12 @@ impl<B: Body, H: Hijack + Drop> Inside<B, H> {
     }
 
     // One read for the hijacker that has the connection, and what it says to what came.
-    fn hear<L: Link>(&mut self, link: &mut L) -> LinkRead
+    fn hear<L: Link>(&mut self, link: &mut L, now: u64) -> LinkRead
         requires { IsHearing self.old.at }
         ensures holds { (T : Teller H) → HoldsBy (record { says = H.says; ends = H.ends }) T (L.seen link.old) self.old → HoldsBy (record { says = H.says; ends = H.ends }) T (L.seen link.new) self.new }
         ensures reads { HearsBy result (shows self.old) (shows self.new) (L.seen link.old) (L.seen link.new) }
         ensures once { ReadsOnce result (shows self.old) (shows self.new) (L.seen link.old) (L.seen link.new) }
+        ensures keeps { Keeps now (Read result) (shows self.old) (shows self.new) }
     {
         let read = self.held.read(link);
         match read {
@@ -62,6 +67,7 @@ impl<B: Body, H: Hijack + Drop> Inside<B, H> {
                 let at = mem::replace(&mut self.at, At::Refusing);
                 let at = hand_on(at, &mut self.held, &mut self.ring);
                 put(&mut self.at, at);
+                self.moments.filled = filled(!self.ring.is_empty(), now, self.moments.filled);
                 LinkRead::Bytes(n)
             }
             LinkRead::NotYet => LinkRead::NotYet,
@@ -69,6 +75,7 @@ impl<B: Body, H: Hijack + Drop> Inside<B, H> {
                 let at = mem::replace(&mut self.at, At::Refusing);
                 let at = end_on(at, &mut self.ring);
                 put(&mut self.at, at);
+                self.moments.filled = filled(!self.ring.is_empty(), now, self.moments.filled);
                 LinkRead::End
             }
             LinkRead::Failed => {
@@ -79,14 +86,14 @@ impl<B: Body, H: Hijack + Drop> Inside<B, H> {
     }
 
     // One read, and what it leaves.
-    pub(crate) fn feed<L: Link>(&mut self, link: &mut L) -> Next
+    pub(crate) fn feed<L: Link>(&mut self, link: &mut L, now: u64) -> Next
         requires { MayRead self.old.at }
         ensures holds { (T : Teller H) → HoldsBy (record { says = H.says; ends = H.ends }) T (L.seen link.old) self.old → HoldsBy (record { says = H.says; ends = H.ends }) T (L.seen link.new) self.new }
-        ensures feeds { Feeds result (shows self.old) (shows self.new) (L.seen link.old) (L.seen link.new) }
+        ensures feeds { Feeds now result (shows self.old) (shows self.new) (L.seen link.old) (L.seen link.new) }
     {
         let read = match state_at(&self.at) {
-            State::Reading => self.read(link),
-            State::Ready | State::Answering | State::Hijacked | State::Over => self.hear(link),
+            State::Reading => self.read(link, now),
+            State::Ready | State::Answering | State::Hijacked | State::Over => self.hear(link, now),
         };
         match read {
             LinkRead::NotYet => Next::Waiting,

@@ -1,5 +1,5 @@
 // What is owed is said.
-ghost use Rattle.std.specs.Prelude.{◌≡◌, IsTrue};
+ghost use Rattle.std.specs.Prelude.{◌≡◌, ◌≢◌, IsTrue};
 ghost use Rattle.rack_outside.specs.Link.{Seen};
 ghost use Rattle.talk_core.specs.Teller.{Teller};
 ghost use Rattle.conn_core.specs.Calls.{Flushes};
@@ -11,10 +11,11 @@ ghost use Rattle.conn_core.specs.Shown.{shows};
 use crate::answers::flushed;
 use crate::inside::Inside;
 use crate::left::Said;
+use crate::moments::filled;
 use crate::place::{At, is_answering, is_saying, put};
 use crate::send::send;
 use crate::state::Next;
-use crate::steps::{complete, fill};
+use crate::steps::{begins, complete, fill};
 use hijack_core::Hijack;
 use rack_outside::{Link, LinkWrite};
 use rack_types::Body;
@@ -23,31 +24,44 @@ use talk_core::Why;
 
 impl<B: Body, H: Hijack + Drop> Inside<B, H> {
     // Fills the ring from the reply that is under way, if there is one, and tells whether memory sufficed.
-    fn fill(&mut self) -> bool
+    fn fill(&mut self, now: u64) -> bool
         requires { IsSaying self.old.at }
         ensures holds { (T : Teller H) (s : Seen) → HoldsBy (record { says = H.says; ends = H.ends }) T s self.old → HoldsBy (record { says = H.says; ends = H.ends }) T s self.new }
-        ensures fills { FillsShown result (shows self.old) (shows self.new) }
+        ensures fills { FillsShown now result (shows self.old) (shows self.new) }
         ensures some { IsTrue result → IsFilledAt self.new.at self.new.ring.items }
     {
+        let empty = self.ring.is_empty();
         let at = fill(mem::replace(&mut self.at, At::Refusing), &mut self.ring);
+        let _few = self.ring.len();
         let goes_on = is_saying(&at);
         put(&mut self.at, at);
+        self.moments.filled = filled(goes_on & empty, now, self.moments.filled);
         goes_on
     }
 
     // One write. Where it took all that was owed, the connection ends or goes on behind it.
-    fn write<L: Link>(&mut self, link: &mut L) -> Said
+    fn write<L: Link>(&mut self, link: &mut L, now: u64) -> Said
         requires { IsFilledAt self.old.at self.old.ring.items }
         ensures holds { (T : Teller H) → HoldsBy (record { says = H.says; ends = H.ends }) T (L.seen link.old) self.old → HoldsBy (record { says = H.says; ends = H.ends }) T (L.seen link.new) self.new }
         ensures says { Says result (shows self.old) (shows self.new) (L.seen link.old) (L.seen link.new) }
-        ensures once { SaysOnce result (shows self.old) (shows self.new) (L.seen link.old) (L.seen link.new) }
+        ensures once { SaysOnce now result (shows self.old) (shows self.new) (L.seen link.old) (L.seen link.new) }
+        ensures wrote { result ≢ Said.Unwritten }
     {
         match send(link, &mut self.ring) {
             LinkWrite::Took(_) => {
+                self.moments.took = Some(now);
                 if self.ring.is_empty() {
                     let at = mem::replace(&mut self.at, At::Refusing);
-                    let at = complete(at, &mut self.intake, &mut self.held, &mut self.ring);
+                    let at = complete(
+                        at,
+                        &mut self.intake,
+                        &mut self.held,
+                        &mut self.ring,
+                        self.ending.late,
+                    );
+                    self.moments.begun = begins(&at, &self.intake, None, now);
                     put(&mut self.at, at);
+                    self.moments.filled = filled(!self.ring.is_empty(), now, self.moments.filled);
                     Said::Wrote
                 } else {
                     Said::Wrote
@@ -66,24 +80,24 @@ impl<B: Body, H: Hijack + Drop> Inside<B, H> {
     }
 
     // Fills the ring and writes once. Where the link took all that was owed, goes on behind it.
-    pub(crate) fn say<L: Link>(&mut self, link: &mut L) -> Said
+    pub(crate) fn say<L: Link>(&mut self, link: &mut L, now: u64) -> Said
         requires { IsSaying self.old.at }
         ensures holds { (T : Teller H) → HoldsBy (record { says = H.says; ends = H.ends }) T (L.seen link.old) self.old → HoldsBy (record { says = H.says; ends = H.ends }) T (L.seen link.new) self.new }
         ensures says { Says result (shows self.old) (shows self.new) (L.seen link.old) (L.seen link.new) }
-        ensures once { SaysOnce result (shows self.old) (shows self.new) (L.seen link.old) (L.seen link.new) }
+        ensures once { SaysOnce now result (shows self.old) (shows self.new) (L.seen link.old) (L.seen link.new) }
     {
-        if self.fill() {
-            self.write(link)
+        if self.fill(now) {
+            self.write(link, now)
         } else {
             Said::Unwritten
         }
     }
 
     // Fills and writes, at most 16 times.
-    pub(crate) fn flush<L: Link>(&mut self, link: &mut L) -> Next
+    pub(crate) fn flush<L: Link>(&mut self, link: &mut L, now: u64) -> Next
         requires { IsSaying self.old.at }
         ensures holds { (T : Teller H) → HoldsBy (record { says = H.says; ends = H.ends }) T (L.seen link.old) self.old → HoldsBy (record { says = H.says; ends = H.ends }) T (L.seen link.new) self.new }
-        ensures flushes { Flushes result (shows self.old) (shows self.new) (L.seen link.old) (L.seen link.new) }
+        ensures flushes { Flushes now result (shows self.old) (shows self.new) (L.seen link.old) (L.seen link.new) }
     {
         let answering = is_answering(&self.at);
         let mut writes = 0;
@@ -91,7 +105,7 @@ impl<B: Body, H: Hijack + Drop> Inside<B, H> {
             if writes == 16 || !is_saying(&self.at) {
                 return flushed(&self.at, writes, answering);
             }
-            match self.say(link) {
+            match self.say(link, now) {
                 Said::Unwritten => return flushed(&self.at, writes, answering),
                 Said::Wrote => writes += 1,
                 Said::Waits => return flushed(&self.at, writes + 1, answering),

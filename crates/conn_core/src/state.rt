@@ -30,3 +30,27 @@ pub enum Next {
     /// The connection ended.
     Over,
 }
+
+/// What a tick left.
+#[derive(Clone, Copy, Debug, PartialEq, Eq)]
+pub enum Tick {
+    /// No limit has passed, and nothing changed.
+    Still,
+    /// A request took too long: the reply that says so is owed.
+    Write,
+    /// The connection ended, idle or stalled.
+    Over,
+}
+
+/// What the telling of a drain left.
+#[derive(Clone, Copy, Debug, PartialEq, Eq)]
+pub enum Told {
+    /// It goes on as it was.
+    Stays,
+    /// No byte of it was ever read: it may be placed anew, or ended unread.
+    Unread,
+    /// Bytes are owed: it is to be flushed.
+    Write,
+    /// It ended: it is to be finished.
+    Over,
+}

@@ -7,10 +7,11 @@ ghost use Rattle.rack_env.specs.Environment.{environment};
 ghost use Rattle.message_framing.specs.Intake.{Fed, StandsWhole};
 ghost use Rattle.message_framing.specs.Request.{IsRequest};
 ghost use Rattle.talk_core.specs.Teller.{ask_of};
-ghost use Rattle.conn_core.specs.Steps.{FeedsHeld, TakesAll, BeginsTaken, BeginsAt, IsWritten, FillsFrom, FillsTo, HasRequest, CompletesTo};
+ghost use Rattle.conn_core.specs.Steps.{FeedsHeld, BeginsAs, TakesAll, BeginsTaken, BeginsAt, IsWritten, FillsFrom, FillsTo, HasRequest, CompletesTo};
 
 use crate::held::Held;
 use crate::hijack::tell;
+use crate::moments::{Late, ended_by};
 use crate::place::At;
 use circular_buffer::HeapCircularBuffer;
 use hijack_core::Hijack;
@@ -39,6 +40,33 @@ pub(crate) fn feed_held<B: Body, H>(intake: &mut Intake, held: &mut Held) -> At<
             At::Refused(fault)
         }
         Err(_) => At::Over(Why::NoMemory),
+    }
+}
+
+// The moment at which the request was begun that is to be read at this place: the one kept, or now.
+pub(crate) fn begins<B: Body, H>(
+    at: &At<B, H>,
+    intake: &Intake,
+    kept: Option<u64>,
+    now: u64,
+) -> Option<u64>
+    ensures { BeginsAs at.now intake.now now kept result }
+{
+    match at {
+        At::Reading => if intake.begun() {
+            Some(kept.unwrap_or(now))
+        } else {
+            None
+        },
+        At::Asked | At::Refused(_) => None,
+        At::Answering(_)
+        | At::Writing(_)
+        | At::Handing(_)
+        | At::Refusing
+        | At::Taken(_)
+        | At::Speaking(_)
+        | At::Parting
+        | At::Over(_) => kept,
     }
 }
 
@@ -179,11 +207,12 @@ pub(crate) fn complete<B: Body, H: Hijack + Drop>(
     intake: &mut Intake,
     held: &mut Held,
     ring: &mut HeapCircularBuffer<u8>,
+    late: Option<Late>,
 ) -> At<B, H>
     requires stands { HasRequest at intake.old }
     requires empty { ring.old.items ≡ [] }
     requires room { ring.old.capacity ≡ 65536 }
-    ensures completes { CompletesTo (record { says = H.says; ends = H.ends }) at intake.old held.old result intake.new held.new ring.new.items }
+    ensures completes { CompletesTo late (record { says = H.says; ends = H.ends }) at intake.old held.old result intake.new held.new ring.new.items }
     ensures room { ring.new.capacity ≡ ring.old.capacity }
 {
     match at {
@@ -194,7 +223,7 @@ pub(crate) fn complete<B: Body, H: Hijack + Drop>(
             At::Over(Why::Closed)
         },
         At::Handing(hijacker) => tell(hijacker, held, ring),
-        At::Refusing => At::Over(Why::Closed),
+        At::Refusing => At::Over(ended_by(late)),
         At::Speaking(hijacker) => At::Taken(hijacker),
         At::Parting => At::Over(Why::Hijacked),
         at => at,

@@ -9,5 +9,5 @@ pub returns-then-keeps-clause-completes : goal.returns-then-keeps-clause-complet
 returns-then-keeps-clause-completes g c =
     let V : Voice g.row.H.Denot = record { says = g.H.Hijack.says; ends = g.H.Hijack.ends } in
     let is : c.args.at ≡ at.Writing true = c.in-Writing.is ∙ ap (λ (keeps : Bool). at.Writing keeps) c.if-keeps.true in
-    subst (λ (a : At g.row.B.Denot g.row.H.Denot). CompletesTo V a c.args.intake.now c.args.held.now c.feed_held.result c.feed_held.new.intake c.feed_held.new.held c.args.ring.now.items)
+    subst (λ (a : At g.row.B.Denot g.row.H.Denot). CompletesTo c.args.late V a c.args.intake.now c.args.held.now c.feed_held.result c.feed_held.new.intake c.feed_held.new.held c.args.ring.now.items)
     (sym is) (c.advance.new.self, c.advance.ensures, c.feed_held.ensures, c.requires.empty)

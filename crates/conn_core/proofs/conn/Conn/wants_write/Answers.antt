@@ -8,11 +8,11 @@ use Rattle.conn_core.proofs.conn.Conn.wants_write.Goals as goal
 pub returns-clause-bytes : goal.returns-clause-bytes
 returns-clause-bytes g c =
     let p = c.args.self.now.inside.value in (
-      λ says. owed_says p.at p.intake p.held p.ring.items p.calls p.rests
+      λ says. owed_says p.at p.intake p.held p.ring.items p.calls p.ending p.rests
           (subst (λ (x : Inside g.row.B.Denot g.row.H.Denot g.B.Body). IsSaying x.at) c.deref.ensures (c.is_saying.ensures.0 says)),
       λ some. c.is_saying.ensures.1
           (subst (λ (x : Inside g.row.B.Denot g.row.H.Denot g.B.Body). IsSaying x.at) (sym c.deref.ensures)
-          (says_owed p.at p.intake p.held p.ring.items p.calls p.rests some)),
+          (says_owed p.at p.intake p.held p.ring.items p.calls p.ending p.rests some)),
     )
 
 pub returns-clause-state : goal.returns-clause-state

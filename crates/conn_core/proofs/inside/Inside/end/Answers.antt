@@ -7,4 +7,4 @@ use Rattle.conn_core.proofs.inside.Inside.end.Goals as goal
 pub returns-clause-holds : goal.returns-clause-holds
 returns-clause-holds g c = λ V T s h.
     stands_place (at.Over c.args.why) c.put.new.at V T s c.args.self.now.peer _ (sym c.put.ensures)
-    (ends_any V T s c.args.self.now _ c.args.why c.requires.live c.requires.any refl refl h)
+    (ends_any V T s c.args.self.now _ c.args.why c.requires.live c.requires.any refl refl refl h)

@@ -12,7 +12,7 @@ invariant-loop-writes g l = record {
   holds : (T : Teller g.row.H.Denot) → HoldsBy (record { says = g.H.Hijack.says; ends = g.H.Hijack.ends }) T (g.L.Link.seen l.fn.link) l.fn.self
       → HoldsBy (record { says = g.H.Hijack.says; ends = g.H.Hijack.ends }) T (g.L.Link.seen l.link) l.self;
   flushing : Flushing (shows l.fn.self) (shows l.self) (g.L.Link.seen l.fn.link) (g.L.Link.seen l.link) l.writes;
-  moving : Moving (flush_at (shows l.fn.self) (g.L.Link.seen l.fn.link) 0 false) (flush_at (shows l.self) (g.L.Link.seen l.link) l.writes false);
+  moving : Moving l.fn.now (flush_at (shows l.fn.self) (g.L.Link.seen l.fn.link) 0 false) (flush_at (shows l.self) (g.L.Link.seen l.link) l.writes false);
   falling : Falling (shows l.fn.self) (shows l.self) l.writes;
 }
 

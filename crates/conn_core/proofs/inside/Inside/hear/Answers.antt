@@ -1,10 +1,13 @@
-use Rattle.std.proofs.Common.{◌≡◌, refl, sym, subst, ◌∙◌, ℕ, ◌+◌, ◌-◌, ◌^◌, ◌<◌, min, length, ap}
+use Rattle.std.proofs.Common.{◌≡◌, refl, sym, subst, ◌∙◌, ℕ, ◌+◌, ◌-◌, ◌^◌, ◌<◌, min, length, ap, inr}
 use Rattle.talk_core.specs.declared.ended.Why.TheVariants as why
 use Rattle.talk_core.specs.Tail.{Voice}
 use Rattle.conn_core.specs.declared.place.At.{At}
 use Rattle.conn_core.specs.declared.place.At.TheVariants as at
 use Rattle.conn_core.specs.Holds.{kept}
 use Rattle.conn_core.specs.Steps.{HandsOn, EndsOn}
+use Rattle.conn_core.specs.Keeps.{Keeps, Read}
+use Rattle.conn_core.proofs.FilledLemmas.{shown_at}
+use Rattle.conn_core.proofs.KeepsLemmas.{filled_is, heard_keeps, ended_keeps, nothing_keeps, end_keeps}
 use Rattle.conn_core.proofs.MoveLemmas.{held_same}
 use Rattle.conn_core.proofs.HijackLemmas.{heard_at, end_at, nothing_at, failure_at, hearing_rests}
 use Rattle.conn_core.proofs.PlaceLemmas.{stands_place}
@@ -24,7 +27,7 @@ returns-in-Bytes-clause-holds g c = λ T h.
     let s = g.L.Link.seen c.args.link.now in
     let s' = g.L.Link.seen c.read-read.new.link in
     let p = c.args.self.now in
-    let none = hearing_rests p.at p.intake p.held p.ring.items p.calls c.requires p.rests in
+    let none = hearing_rests p.at p.intake p.held p.ring.items p.calls p.ending c.requires p.rests in
     let hands : HandsOn V p.at c.read-read.new.self p.ring.items c.hand_on-at.result c.hand_on-at.new.ring.items c.hand_on-at.new.held =
     subst (λ (a : At g.row.B.Denot g.row.H.Denot). HandsOn V a c.read-read.new.self p.ring.items c.hand_on-at.result c.hand_on-at.new.ring.items c.hand_on-at.new.held)
     c.replace-at.ensures.value c.hand_on-at.ensures.hands in
@@ -39,8 +42,8 @@ returns-in-NotYet-clause-holds g c = λ T h.
     let s = g.L.Link.seen c.args.link.now in
     let s' = g.L.Link.seen c.read-read.new.link in
     let p = c.args.self.now in
-    let none = hearing_rests p.at p.intake p.held p.ring.items p.calls c.requires p.rests in
-    nothing_at V T s s' p.peer (kept p) c.in-NotYet.ensures.keeps none.1 p.at _ c.requires refl (c.in-NotYet.ensures.reads.0 ∙ sym none.0) refl refl refl
+    let none = hearing_rests p.at p.intake p.held p.ring.items p.calls p.ending c.requires p.rests in
+    nothing_at V T s s' p.peer (kept p) c.in-NotYet.ensures.keeps none.1 p.at _ c.requires refl (c.in-NotYet.ensures.reads.0 ∙ sym none.0) refl refl refl refl
     c.in-NotYet.ensures.reads.1 c.in-NotYet.ensures.reads.2 h
 
 pub returns-in-End-clause-holds : goal.returns-in-End-clause-holds
@@ -49,7 +52,7 @@ returns-in-End-clause-holds g c = λ T h.
     let s = g.L.Link.seen c.args.link.now in
     let s' = g.L.Link.seen c.read-read.new.link in
     let p = c.args.self.now in
-    let none = hearing_rests p.at p.intake p.held p.ring.items p.calls c.requires p.rests in
+    let none = hearing_rests p.at p.intake p.held p.ring.items p.calls p.ending c.requires p.rests in
     let ends : EndsOn V p.at c.end_on-at.result c.end_on-at.new.ring.items =
     subst (λ (a : At g.row.B.Denot g.row.H.Denot). EndsOn V a c.end_on-at.result c.end_on-at.new.ring.items) c.replace-at-in-End.ensures.value c.end_on-at.ensures.ends in
     stands_place c.end_on-at.result c.put-in-End.new.at V T s' p.peer _ (sym c.put-in-End.ensures)
@@ -62,9 +65,9 @@ returns-in-Failed-clause-holds g c = λ T h.
     let s = g.L.Link.seen c.args.link.now in
     let s' = g.L.Link.seen c.read-read.new.link in
     let p = c.args.self.now in
-    let none = hearing_rests p.at p.intake p.held p.ring.items p.calls c.requires p.rests in
+    let none = hearing_rests p.at p.intake p.held p.ring.items p.calls p.ending c.requires p.rests in
     stands_place (at.Over why.ReadFailed) c.put-in-Failed.new.at V T s' p.peer _ (sym c.put-in-Failed.ensures)
-    (failure_at V T s s' p.peer (kept p) c.in-Failed.ensures.keeps none.1 p.at _ c.requires refl refl c.in-Failed.ensures.reads.1 c.in-Failed.ensures.reads.2
+    (failure_at V T s s' p.peer (kept p) c.in-Failed.ensures.keeps none.1 p.at _ c.requires refl refl refl c.in-Failed.ensures.reads.1 c.in-Failed.ensures.reads.2
     c.in-Failed.ensures.reads.3 h)
 
 pub returns-in-Bytes-clause-reads : goal.returns-in-Bytes-clause-reads
@@ -127,7 +130,7 @@ returns-in-NotYet-clause-once g c =
     let is = hears_shown c.args.self.now.at c.requires in
     read_once read.NotYet state.Hijacked _ _ _ _ c.in-NotYet.ensures.offers c.in-NotYet.ensures.keeps refl refl refl refl refl refl is.0
     (held_same (shows c.args.self.now) c.read-read.new.self (c.in-NotYet.ensures.reads.0
-    ∙ sym (hearing_rests c.args.self.now.at c.args.self.now.intake c.args.self.now.held c.args.self.now.ring.items c.args.self.now.calls c.requires c.args.self.now.rests).0))
+    ∙ sym (hearing_rests c.args.self.now.at c.args.self.now.intake c.args.self.now.held c.args.self.now.ring.items c.args.self.now.calls c.args.self.now.ending c.requires c.args.self.now.rests).0))
 
 pub returns-in-End-clause-reads : goal.returns-in-End-clause-reads
 returns-in-End-clause-reads g c =
@@ -183,3 +186,49 @@ returns-in-Failed-clause-once g c =
     read_once read.Failed state.Hijacked _ _ _ _ c.in-Failed.ensures.offers c.in-Failed.ensures.keeps refl refl refl refl
     (ap (λ (a : At g.row.B.Denot g.row.H.Denot). replied_at a p.calls) place ∙ sym (hears_replied p.at p.calls c.requires)) refl
     (hears_shown p.at c.requires).0 (ap (λ (a : At g.row.B.Denot g.row.H.Denot). state_at a) place, ap (λ (a : At g.row.B.Denot g.row.H.Denot). why_at a) place)
+
+pub returns-in-Bytes-clause-keeps : goal.returns-in-Bytes-clause-keeps
+returns-in-Bytes-clause-keeps g c =
+    let V : Voice g.row.H.Denot = record { says = g.H.Hijack.says; ends = g.H.Hijack.ends } in
+    let p = c.args.self.now in
+    let ring = c.hand_on-at.new.ring.items in
+    let hands : HandsOn V p.at c.read-read.new.self p.ring.items c.put.new.at ring c.hand_on-at.new.held =
+    subst (λ (b : At g.row.B.Denot g.row.H.Denot). HandsOn V p.at c.read-read.new.self p.ring.items b ring c.hand_on-at.new.held) (sym c.put.ensures)
+    (subst (λ (a : At g.row.B.Denot g.row.H.Denot). HandsOn V a c.read-read.new.self p.ring.items c.hand_on-at.result ring c.hand_on-at.new.held)
+    c.replace-at.ensures.value c.hand_on-at.ensures.hands) in
+    subst (λ (k : ℕ). Keeps c.args.now (Read (read.Bytes c.in-Bytes.n)) (shows p)
+    (shown_at c.put.new.at ring c.hand_on-at.new.held p.peer p.local p.lives.items p.calls c.saturating_add-self.result p.ending
+    (record p.moments { filled = k })))
+    (sym (filled_is c.args.now p.moments.filled c.filled-self.result ring c.is_empty.result c.is_empty.ensures c.filled-self.ensures))
+    (heard_keeps c.args.now p.peer p.local p.lives.items p.calls p.taken p.ending p.moments V p.at c.put.new.at p.ring.items ring p.held
+    c.hand_on-at.new.held c.read-read.new.self c.in-Bytes.n c.saturating_add-self.result c.requires hands)
+
+pub returns-in-NotYet-clause-keeps : goal.returns-in-NotYet-clause-keeps
+returns-in-NotYet-clause-keeps g c =
+    let p = c.args.self.now in
+    let is = hears_shown p.at c.requires in
+    nothing_keeps c.args.now p.peer p.local p.lives.items p.calls p.taken p.ending p.moments p.at p.ring.items p.held c.read-read.new.self
+    (hearing_rests p.at p.intake p.held p.ring.items p.calls p.ending c.requires p.rests).1
+    (λ e. let x : state.Hijacked ≡ state.Answering = sym is.0 ∙ e in cc)
+
+pub returns-in-End-clause-keeps : goal.returns-in-End-clause-keeps
+returns-in-End-clause-keeps g c =
+    let V : Voice g.row.H.Denot = record { says = g.H.Hijack.says; ends = g.H.Hijack.ends } in
+    let p = c.args.self.now in
+    let ring = c.end_on-at.new.ring.items in
+    let ends : EndsOn V p.at c.put-in-End.new.at ring =
+    subst (λ (b : At g.row.B.Denot g.row.H.Denot). EndsOn V p.at b ring) (sym c.put-in-End.ensures)
+    (subst (λ (a : At g.row.B.Denot g.row.H.Denot). EndsOn V a c.end_on-at.result ring) c.replace-at-in-End.ensures.value c.end_on-at.ensures.ends) in
+    subst (λ (k : ℕ). Keeps c.args.now (Read read.End) (shows p)
+    (shown_at c.put-in-End.new.at ring c.read-read.new.self p.peer p.local p.lives.items p.calls p.taken p.ending (record p.moments { filled = k })))
+    (sym (filled_is c.args.now p.moments.filled c.filled-self-in-End.result ring c.is_empty-in-End.result c.is_empty-in-End.ensures c.filled-self-in-End.ensures))
+    (ended_keeps c.args.now p.peer p.local p.lives.items p.calls p.taken p.ending p.moments V p.at c.put-in-End.new.at p.ring.items ring p.held
+    c.read-read.new.self c.requires ends)
+
+pub returns-in-Failed-clause-keeps : goal.returns-in-Failed-clause-keeps
+returns-in-Failed-clause-keeps g c =
+    let p = c.args.self.now in
+    subst (λ (d : At g.row.B.Denot g.row.H.Denot). Keeps c.args.now (Read read.Failed) (shows p)
+    (shown_at d p.ring.items c.read-read.new.self p.peer p.local p.lives.items p.calls p.taken p.ending p.moments)) (sym c.put-in-Failed.ensures)
+    (end_keeps c.args.now p.peer p.local p.lives.items p.calls p.taken p.ending p.moments p.at why.ReadFailed read.Failed p.ring.items p.ring.items p.held
+    c.read-read.new.self (inr refl))

@@ -1,4 +1,4 @@
-use Rattle.std.proofs.Common.{◌≡◌, ℕ, ◌+◌, ◌-◌, ◌^◌, ◌<◌, min, length, refl, sym, ap, subst, ◌∙◌}
+use Rattle.std.proofs.Common.{◌≡◌, ◌≢◌, ℕ, ◌+◌, ◌-◌, ◌^◌, ◌<◌, min, length, refl, sym, ap, subst, ◌∙◌, None, inl, inr}
 use Rattle.rack_outside.specs.declared.link.LinkRead.TheVariants as read
 use Rattle.talk_core.specs.Counts.{counted_by}
 use Rattle.talk_core.specs.declared.ended.Why.TheVariants as why
@@ -12,7 +12,10 @@ use Rattle.conn_core.specs.Inner.{IsFed}
 use Rattle.conn_core.specs.Place.{state_at}
 use Rattle.conn_core.specs.Moves.{FedTo}
 use Rattle.conn_core.specs.Shown.{shows, replied_at, owed_at, why_at}
-use Rattle.conn_core.proofs.MoveLemmas.{fed_to, unowed_fed, held_same, reading_held}
+use Rattle.conn_core.specs.Keeps.{Keeps, Read}
+use Rattle.conn_core.proofs.FilledLemmas.{shown_at}
+use Rattle.conn_core.proofs.KeepsLemmas.{fed_keeps, nothing_keeps, end_keeps}
+use Rattle.conn_core.proofs.MoveLemmas.{fed_to, unowed_fed, held_same, reading_held, reading_ring}
 use Rattle.conn_core.proofs.PlaceLemmas.{stands_place}
 use Rattle.conn_core.proofs.ReadLemmas.{took_in, read_end, read_failed}
 use Rattle.conn_core.proofs.ShownLemmas.{counted_sum, moved_by_read, nothing_came, FedShown, fed_shown, read_once}
@@ -50,7 +53,7 @@ returns-in-Bytes-clause-reads g c =
           ∙ sym (ap (λ (a : At g.row.B.Denot g.row.H.Denot). replied_at a calls) c.requires);
       sent = c.in-Bytes.ensures.keeps.sent;
       why = subst (λ (a : At g.row.B.Denot g.row.H.Denot). IsOfFeed (why_at a)) (sym place) f.why;
-      ends = subst (λ (a : At g.row.B.Denot g.row.H.Denot). TurnEnds (why_at a) s s') (sym place) f.ends;
+      ends = subst (λ (a : At g.row.B.Denot g.row.H.Denot). TurnEnds None (why_at a) s s') (sym place) f.ends;
       leaves = (
         c.in-Bytes.ensures.reads.0,
         c.in-Bytes.ensures.reads.1,
@@ -68,7 +71,7 @@ returns-in-NotYet-clause-reads g c =
       replied = refl;
       sent = c.in-NotYet.ensures.keeps.sent;
       why = subst (λ (a : At g.row.B.Denot g.row.H.Denot). IsOfFeed (why_at a)) (sym c.requires) tt;
-      ends = subst (λ (a : At g.row.B.Denot g.row.H.Denot). TurnEnds (why_at a) s s') (sym c.requires) c.in-NotYet.ensures.reads.2;
+      ends = subst (λ (a : At g.row.B.Denot g.row.H.Denot). TurnEnds None (why_at a) s s') (sym c.requires) c.in-NotYet.ensures.reads.2;
       leaves = (refl, ap (λ (a : At g.row.B.Denot g.row.H.Denot). state_at a) c.requires, c.in-NotYet.ensures.reads.3);
     }
 
@@ -78,7 +81,7 @@ returns-in-End-clause-holds g c = λ T h.
     let s = g.L.Link.seen c.args.link.now in
     let s' = g.L.Link.seen c.read-read.new.link in
     stands_place (at.Over why.PeerEnd) c.put-in-End.new.at V T s' c.args.self.now.peer _ (sym c.put-in-End.ensures)
-    (read_end V T s s' c.args.self.now.peer (kept c.args.self.now) c.in-End.ensures.keeps _ refl refl c.in-End.ensures.reads.1 c.in-End.ensures.reads.2
+    (read_end V T s s' c.args.self.now.peer (kept c.args.self.now) c.in-End.ensures.keeps _ refl refl refl c.in-End.ensures.reads.1 c.in-End.ensures.reads.2
     (stands_place c.args.self.now.at at.Reading V T s c.args.self.now.peer (kept c.args.self.now) c.requires h))
 
 pub returns-in-End-clause-reads : goal.returns-in-End-clause-reads
@@ -93,7 +96,7 @@ returns-in-End-clause-reads g c =
           ∙ sym (ap (λ (a : At g.row.B.Denot g.row.H.Denot). replied_at a c.args.self.now.calls) c.requires);
       sent = c.in-End.ensures.keeps.sent;
       why = subst (λ (a : At g.row.B.Denot g.row.H.Denot). IsOfFeed (why_at a)) (sym place) tt;
-      ends = subst (λ (a : At g.row.B.Denot g.row.H.Denot). TurnEnds (why_at a) s s') (sym place) c.in-End.ensures.reads.2;
+      ends = subst (λ (a : At g.row.B.Denot g.row.H.Denot). TurnEnds None (why_at a) s s') (sym place) c.in-End.ensures.reads.2;
       leaves = (refl, ap (λ (a : At g.row.B.Denot g.row.H.Denot). state_at a) place);
     }
 
@@ -103,7 +106,7 @@ returns-in-Failed-clause-holds g c = λ T h.
     let s = g.L.Link.seen c.args.link.now in
     let s' = g.L.Link.seen c.read-read.new.link in
     stands_place (at.Over why.ReadFailed) c.put-in-Failed.new.at V T s' c.args.self.now.peer _ (sym c.put-in-Failed.ensures)
-    (read_failed V T s s' c.args.self.now.peer (kept c.args.self.now) c.in-Failed.ensures.keeps _ refl refl c.in-Failed.ensures.reads.1
+    (read_failed V T s s' c.args.self.now.peer (kept c.args.self.now) c.in-Failed.ensures.keeps _ refl refl refl c.in-Failed.ensures.reads.1
     c.in-Failed.ensures.reads.2 c.in-Failed.ensures.reads.3
     (stands_place c.args.self.now.at at.Reading V T s c.args.self.now.peer (kept c.args.self.now) c.requires h))
 
@@ -119,7 +122,7 @@ returns-in-Failed-clause-reads g c =
           ∙ sym (ap (λ (a : At g.row.B.Denot g.row.H.Denot). replied_at a c.args.self.now.calls) c.requires);
       sent = c.in-Failed.ensures.keeps.sent;
       why = subst (λ (a : At g.row.B.Denot g.row.H.Denot). IsOfFeed (why_at a)) (sym place) tt;
-      ends = subst (λ (a : At g.row.B.Denot g.row.H.Denot). TurnEnds (why_at a) s s') (sym place) (c.in-Failed.ensures.reads.2, c.in-Failed.ensures.reads.3);
+      ends = subst (λ (a : At g.row.B.Denot g.row.H.Denot). TurnEnds None (why_at a) s s') (sym place) (c.in-Failed.ensures.reads.2, c.in-Failed.ensures.reads.3);
       leaves = (refl, ap (λ (a : At g.row.B.Denot g.row.H.Denot). state_at a) place);
     }
 
@@ -140,7 +143,7 @@ returns-in-Bytes-clause-once g c =
     (ap (λ (a : At g.row.B.Denot g.row.H.Denot). state_at a) c.requires) (
       subst (λ (a : At g.row.B.Denot g.row.H.Denot). FedTo (state_at a) (why_at a)) (sym place) to,
       ap (λ (a : At g.row.B.Denot g.row.H.Denot). owed_at a p.ring.items) place
-          ∙ unowed_fed p.at c.feed_held-at.result p.intake p.held p.ring.items p.calls c.requires p.rests to,
+          ∙ unowed_fed p.at c.feed_held-at.result p.intake p.held p.ring.items p.calls p.ending c.requires p.rests to,
     )
 
 pub returns-in-NotYet-clause-once : goal.returns-in-NotYet-clause-once
@@ -173,3 +176,37 @@ returns-in-Failed-clause-once g c =
       ap (λ (a : At g.row.B.Denot g.row.H.Denot). state_at a) place,
       ap (λ (a : At g.row.B.Denot g.row.H.Denot). why_at a) place,
     )
+
+pub returns-in-Bytes-clause-keeps : goal.returns-in-Bytes-clause-keeps
+returns-in-Bytes-clause-keeps g c =
+    let p = c.args.self.now in
+    let b = c.feed_held-at.result in
+    subst (λ (d : At g.row.B.Denot g.row.H.Denot). Keeps c.args.now (Read (read.Bytes c.in-Bytes.n)) (shows p)
+    (shown_at d p.ring.items c.feed_held-at.new.held p.peer p.local p.lives.items p.calls c.saturating_add-self.result p.ending
+    (record p.moments { begun = c.begins-self.result }))) (sym c.put.ensures)
+    (fed_keeps c.args.now p.peer p.local p.lives.items p.calls p.taken p.ending p.moments p.at b p.ring.items p.held c.feed_held-at.new.held
+    c.read-read.new.self c.in-Bytes.n c.saturating_add-self.result p.intake c.feed_held-at.new.intake c.begins-self.result c.feed_held-at.ensures
+    c.begins-self.ensures (reading_ring p.at p.intake p.held p.ring.items p.calls p.ending c.requires p.rests))
+
+pub returns-in-NotYet-clause-keeps : goal.returns-in-NotYet-clause-keeps
+returns-in-NotYet-clause-keeps g c =
+    let p = c.args.self.now in
+    nothing_keeps c.args.now p.peer p.local p.lives.items p.calls p.taken p.ending p.moments p.at p.ring.items p.held c.read-read.new.self
+    (reading_ring p.at p.intake p.held p.ring.items p.calls p.ending c.requires p.rests)
+    (subst (λ (a : At g.row.B.Denot g.row.H.Denot). state_at a ≢ state.Answering) (sym c.requires) (λ e. cc))
+
+pub returns-in-End-clause-keeps : goal.returns-in-End-clause-keeps
+returns-in-End-clause-keeps g c =
+    let p = c.args.self.now in
+    subst (λ (d : At g.row.B.Denot g.row.H.Denot). Keeps c.args.now (Read read.End) (shows p)
+    (shown_at d p.ring.items c.read-read.new.self p.peer p.local p.lives.items p.calls p.taken p.ending p.moments)) (sym c.put-in-End.ensures)
+    (end_keeps c.args.now p.peer p.local p.lives.items p.calls p.taken p.ending p.moments p.at why.PeerEnd read.End p.ring.items p.ring.items p.held
+    c.read-read.new.self (inl refl))
+
+pub returns-in-Failed-clause-keeps : goal.returns-in-Failed-clause-keeps
+returns-in-Failed-clause-keeps g c =
+    let p = c.args.self.now in
+    subst (λ (d : At g.row.B.Denot g.row.H.Denot). Keeps c.args.now (Read read.Failed) (shows p)
+    (shown_at d p.ring.items c.read-read.new.self p.peer p.local p.lives.items p.calls p.taken p.ending p.moments)) (sym c.put-in-Failed.ensures)
+    (end_keeps c.args.now p.peer p.local p.lives.items p.calls p.taken p.ending p.moments p.at why.ReadFailed read.Failed p.ring.items p.ring.items p.held
+    c.read-read.new.self (inr refl))

@@ -1,4 +1,4 @@
-use Rattle.std.proofs.Common.{◌≡◌, ◌++◌, ℕ, List, refl, sym, ap, ◌∙◌}
+use Rattle.std.proofs.Common.{◌≡◌, ◌++◌, ℕ, List, refl, sym, ap, subst, ◌∙◌}
 use Rattle.reply_framing.specs.Fault.{fault_reply}
 use Rattle.circular_buffer.specs.Buffer.{Buffer}
 use Rattle.talk_core.specs.Tail.{Voice}
@@ -6,8 +6,11 @@ use Rattle.conn_core.specs.declared.place.At.TheVariants as at
 use Rattle.conn_core.specs.declared.place.At.{At}
 use Rattle.conn_core.specs.Holds.{kept}
 use Rattle.conn_core.specs.Place.{state_at}
-use Rattle.conn_core.specs.Shown.{replied_at, owed_at, why_at, after_at, sure_at}
+use Rattle.conn_core.specs.Shown.{shows, replied_at, owed_at, why_at, after_at, sure_at}
 use Rattle.conn_core.proofs.BeginLemmas.{named}
+use Rattle.conn_core.specs.Keeps.{Keeps, Refusal}
+use Rattle.conn_core.proofs.FilledLemmas.{shown_at}
+use Rattle.conn_core.proofs.KeepsLemmas.{refusal_keeps}
 use Rattle.conn_core.proofs.MoveLemmas.{refused_ring}
 use Rattle.conn_core.proofs.PlaceLemmas.{stands_place}
 use Rattle.conn_core.proofs.inside.Inside.refuse.Goals as goal
@@ -26,7 +29,7 @@ returns-clause-names g c =
     let place : c.put.new.at ≡ at.Refusing = c.put.ensures in
     let ring : c.put_fault.new.ring.items ≡ fault_reply c.args.fault =
     ap (λ (b : Buffer ℕ). b.items) c.put_fault.ensures
-    ∙ ap (λ (x : List ℕ). x ++ fault_reply c.args.fault) (refused_ring p.at c.args.fault p.intake p.held p.ring.items p.calls c.requires p.rests) in
+    ∙ ap (λ (x : List ℕ). x ++ fault_reply c.args.fault) (refused_ring p.at c.args.fault p.intake p.held p.ring.items p.calls p.ending c.requires p.rests) in
     record {
       same = record { peer = refl; local = refl; lives = refl; taken = refl };
       calls = refl;
@@ -38,3 +41,11 @@ returns-clause-names g c =
       after = ap (λ (a : At g.row.B.Denot g.row.H.Denot). after_at a) place;
       sure = ap (λ (a : At g.row.B.Denot g.row.H.Denot). sure_at a) place;
     }
+
+pub returns-clause-keeps : goal.returns-clause-keeps
+returns-clause-keeps g c =
+    let p = c.args.self.now in
+    subst (λ (d : At g.row.B.Denot g.row.H.Denot). Keeps c.args.now (Refusal c.args.fault) (shows p)
+    (shown_at d c.put_fault.new.ring.items p.held p.peer p.local p.lives.items p.calls p.taken p.ending (record p.moments { filled = c.args.now })))
+    (sym c.put.ensures)
+    (refusal_keeps c.args.now p.peer p.local p.lives.items p.calls p.taken p.ending p.moments p.at c.args.fault p.ring.items c.put_fault.new.ring.items p.held)

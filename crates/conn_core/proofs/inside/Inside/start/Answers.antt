@@ -9,12 +9,12 @@ use Rattle.conn_core.proofs.inside.Inside.start.Goals as goal
 
 pub returns-else-answer : goal.returns-else-answer
 returns-else-answer g c = record {
-  holds = λ T s by h. c.if-answer.ensures.holds T s (λ r. by c.args.self.now.calls r) h;
+  holds = λ T s by h. c.if-answer.ensures.holds T s by h;
   any = λ T s h. c.if-answer.ensures.any T s h;
-  takes = inr (omega arith, inr (unrefused c.args.self.now.at c.requires.ready c.in_default.not-Refused, c.if-answer.ensures.runs));
+  takes = inr (omega arith, inr (unrefused c.args.self.now.at c.requires.ready c.in_default.not-Refused, c.if-answer.ensures.runs.0, c.if-answer.ensures.runs.1));
   left = refl;
   few = omega arith;
-  falls = over_falls c.args.left.now c.args.self.now.at c.answer.new.self.at c.requires.ready c.if-answer.ensures.runs.state;
+  falls = over_falls c.args.left.now c.args.self.now.at c.answer.new.self.at c.requires.ready c.if-answer.ensures.runs.0.state;
   counts = omega (arith, c.if-answer.ensures.counts);
   steady = c.if-answer.ensures.steady;
 }
@@ -27,10 +27,10 @@ returns-in-Refused-clause-any g c = λ T s h.
 pub returns-then-answer-clause-takes : goal.returns-then-answer-clause-takes
 returns-then-answer-clause-takes g c =
     let one : c.args.left.now.runs - (c.args.left.now.runs - 1) ≡ 1 = omega (arith, c.requires.left) in
-    inl (one, unrefused c.args.self.now.at c.requires.ready c.in_default.not-Refused, c.if-answer.ensures.runs)
+    inl (one, unrefused c.args.self.now.at c.requires.ready c.in_default.not-Refused, c.if-answer.ensures.runs.0, c.if-answer.ensures.runs.1)
 
 pub returns-in-Refused-clause-takes : goal.returns-in-Refused-clause-takes
 returns-in-Refused-clause-takes g c =
     let none : c.args.left.now.runs - c.args.left.now.runs ≡ 0 = omega arith in
     let stands = ap (λ (a : At g.row.B.Denot g.row.H.Denot). fault_at a) c.in-Refused.is in
-    inr (none, inl (c.in-Refused.fault, stands, c.refuse.ensures.names))
+    inr (none, inl (c.in-Refused.fault, stands, c.refuse.ensures.names, c.refuse.ensures.keeps))

@@ -7,7 +7,7 @@ use Rattle.conn_core.specs.Place.{state_at as place_as}
 use Rattle.conn_core.specs.Shown.{shows, why_at}
 use Rattle.conn_core.proofs.RetellLemmas.{no_run}
 use Rattle.conn_core.proofs.ShownLemmas.{counted_sum}
-use Rattle.conn_core.proofs.TurnLemmas.{unspent, nothing_read, stays, read_steps, start_steps, no_why_at}
+use Rattle.conn_core.proofs.TurnLemmas.{unspent, nothing_read, stays, read_steps, start_steps, ready_unended, no_why_at}
 use Rattle.conn_core.proofs.MoveLemmas.{owes_rightly, hearing_owes, silent_hears}
 use Rattle.conn_core.proofs.MovingLemmas.{is_open, takes_makes, ended_read, read_makes, over_stops, handed_stops, spent_stops}
 use Rattle.conn_core.proofs.inside.Inside.step.Goals as goal
@@ -29,6 +29,7 @@ returns-in-NotYet-clause-steps g c =
     let none : why_at c.args.self.now.at ≡ None = no_why_at c.args.self.now.at state.Reading reading (λ e. cc) in
     read_steps read.NotYet (shows c.args.self.now) (shows c.read.new.self) (g.L.Link.seen c.args.link.now) (g.L.Link.seen c.read.new.link)
     c.args.left.now c.args.left.now.came h (ap (λ (x : List ℕ). counted_by (length x) c.args.left.now.came) (sym h.leaves.0)) some.1 reading none
+    c.in-NotYet.ensures.keeps.ending
 
 pub returns-in-Bytes-clause-steps : goal.returns-in-Bytes-clause-steps
 returns-in-Bytes-clause-steps g c =
@@ -39,7 +40,7 @@ returns-in-Bytes-clause-steps g c =
     read_steps (read.Bytes c.in-Bytes.n) (shows c.args.self.now) (shows c.read.new.self) (g.L.Link.seen c.args.link.now) (g.L.Link.seen c.read.new.link)
     c.args.left.now c.saturating_add-left.result h
     (c.saturating_add-left.ensures ∙ sym (counted_sum c.in-Bytes.n c.args.left.now.came h.leaves.1)
-    ∙ ap (λ (x : ℕ). counted_by x c.args.left.now.came) h.leaves.0) some.1 reading none
+    ∙ ap (λ (x : ℕ). counted_by x c.args.left.now.came) h.leaves.0) some.1 reading none c.in-Bytes.ensures.keeps.ending
 
 pub returns-in-End-clause-steps : goal.returns-in-End-clause-steps
 returns-in-End-clause-steps g c =
@@ -51,13 +52,16 @@ returns-in-End-clause-steps g c =
     c.in-End.is h.leaves in
     read_steps c.read.result (shows c.args.self.now) (shows c.read.new.self) (g.L.Link.seen c.args.link.now) (g.L.Link.seen c.read.new.link)
     c.args.left.now c.args.left.now.came h (ap (λ (x : List ℕ). counted_by (length x) c.args.left.now.came) (sym nothing)) some.1 reading none
+    c.read.ensures.keeps.ending
 
 pub returns-else-is_spent-2-clause-steps : goal.returns-else-is_spent-2-clause-steps
 returns-else-is_spent-2-clause-steps g c =
+    let p = c.args.self.now in
     let ready : place_as c.args.self.now.at ≡ state.Ready = sym c.state_at.ensures ∙ c.in-Ready.is in
     let none : why_at c.args.self.now.at ≡ None = no_why_at c.args.self.now.at state.Ready ready (λ e. cc) in
-    start_steps (shows c.args.self.now) (shows c.start.new.self) (g.L.Link.seen c.args.link.now) c.args.left.now c.start.new.left
+    start_steps c.args.now (shows c.args.self.now) (shows c.start.new.self) (g.L.Link.seen c.args.link.now) c.args.left.now c.start.new.left
     c.start.ensures.takes c.start.ensures.left c.start.ensures.few ready none
+    (ready_unended p.at p.intake p.held p.ring.items p.calls p.ending p.rests ready).0
 
 pub returns-in-NotYet-clause-any : goal.returns-in-NotYet-clause-any
 returns-in-NotYet-clause-any g c = λ T h.
@@ -101,28 +105,28 @@ pub returns-in-NotYet-clause-moves : goal.returns-in-NotYet-clause-moves
 returns-in-NotYet-clause-moves g c =
     let some = unspent c.is_spent.result c.args.left.now c.is_spent.ensures c.if-is_spent.false in
     let reading : place_as c.args.self.now.at ≡ state.Reading = sym c.state_at.ensures ∙ c.in-Reading.is in
-    read_makes read.NotYet (shows c.args.self.now) (shows c.read.new.self) (g.L.Link.seen c.args.link.now) (g.L.Link.seen c.read.new.link)
-    c.args.left.now c.args.left.now.came true refl c.in-NotYet.ensures.once reading some (owes_rightly c.read.new.self)
+    read_makes c.args.now read.NotYet (shows c.args.self.now) (shows c.read.new.self) (g.L.Link.seen c.args.link.now) (g.L.Link.seen c.read.new.link)
+    c.args.left.now c.args.left.now.came true refl c.in-NotYet.ensures.once c.in-NotYet.ensures.keeps reading some (owes_rightly c.read.new.self)
 
 pub returns-in-Bytes-clause-moves : goal.returns-in-Bytes-clause-moves
 returns-in-Bytes-clause-moves g c =
     let some = unspent c.is_spent.result c.args.left.now c.is_spent.ensures c.if-is_spent.false in
     let reading : place_as c.args.self.now.at ≡ state.Reading = sym c.state_at.ensures ∙ c.in-Reading.is in
-    read_makes (read.Bytes c.in-Bytes.n) (shows c.args.self.now) (shows c.read.new.self) (g.L.Link.seen c.args.link.now) (g.L.Link.seen c.read.new.link)
-    c.args.left.now c.saturating_add-left.result false refl c.in-Bytes.ensures.once reading some (owes_rightly c.read.new.self)
+    read_makes c.args.now (read.Bytes c.in-Bytes.n) (shows c.args.self.now) (shows c.read.new.self) (g.L.Link.seen c.args.link.now) (g.L.Link.seen c.read.new.link)
+    c.args.left.now c.saturating_add-left.result false refl c.in-Bytes.ensures.once c.in-Bytes.ensures.keeps reading some (owes_rightly c.read.new.self)
 
 pub returns-in-End-clause-moves : goal.returns-in-End-clause-moves
 returns-in-End-clause-moves g c =
     let some = unspent c.is_spent.result c.args.left.now c.is_spent.ensures c.if-is_spent.false in
     let reading : place_as c.args.self.now.at ≡ state.Reading = sym c.state_at.ensures ∙ c.in-Reading.is in
-    read_makes c.read.result (shows c.args.self.now) (shows c.read.new.self) (g.L.Link.seen c.args.link.now) (g.L.Link.seen c.read.new.link)
-    c.args.left.now c.args.left.now.came false (ended_read c.read.result c.in-End.is) c.read.ensures.once reading some (owes_rightly c.read.new.self)
+    read_makes c.args.now c.read.result (shows c.args.self.now) (shows c.read.new.self) (g.L.Link.seen c.args.link.now) (g.L.Link.seen c.read.new.link)
+    c.args.left.now c.args.left.now.came false (ended_read c.read.result c.in-End.is) c.read.ensures.once c.read.ensures.keeps reading some (owes_rightly c.read.new.self)
 
 pub returns-else-is_spent-2-clause-moves : goal.returns-else-is_spent-2-clause-moves
 returns-else-is_spent-2-clause-moves g c =
     let some = unspent c.is_spent-in-Ready.result c.args.left.now c.is_spent-in-Ready.ensures c.if-is_spent-2.false in
     let ready : place_as c.args.self.now.at ≡ state.Ready = sym c.state_at.ensures ∙ c.in-Ready.is in
-    takes_makes (shows c.args.self.now) (shows c.start.new.self) (g.L.Link.seen c.args.link.now) c.args.left.now c.start.new.left
+    takes_makes c.args.now (shows c.args.self.now) (shows c.start.new.self) (g.L.Link.seen c.args.link.now) c.args.left.now c.start.new.left
     c.start.ensures.takes c.start.ensures.left c.start.ensures.few ready (is_open (shows c.args.self.now) (g.L.Link.seen c.args.link.now) c.args.left.now some)
     (owes_rightly c.start.new.self)
 

@@ -2,7 +2,7 @@ use Rattle.std.proofs.Common.{◌≡◌, ◌+◌, ℕ, List, true, false}
 use Rattle.rack_types.specs.Env.{Pairs}
 use Rattle.talk_core.specs.Teller.{Teller}
 use Rattle.conn_core.specs.Holds.{HoldsBy}
-use Rattle.conn_core.specs.Inner.{TellsBy, left_at, work}
+use Rattle.conn_core.specs.Inner.{TellsFrom, left_at, work}
 use Rattle.conn_core.specs.Runs.{RunsBy}
 use Rattle.conn_core.specs.Shown.{shows}
 use Rattle.conn_core.proofs.MovingLemmas.{full, Moving}
@@ -12,13 +12,13 @@ use Rattle.conn_core.proofs.inside.Inside.turn.Given as goal
 abbrev pub invariant-loop-self : goal.invariant-loop-self
 invariant-loop-self g l = record {
   holds : g.R.Runner.steady ≡ true → (T : Teller g.row.H.Denot)
-      → TellsBy T (g.R.Runner.answer l.fn.runner) l.fn.self.local l.fn.self.peer
+      → TellsFrom T (g.R.Runner.answer l.fn.runner) l.fn.self.local l.fn.self.peer l.self.ending.closing l.fn.self.calls l.self.calls
       → HoldsBy (record { says = g.H.Hijack.says; ends = g.H.Hijack.ends }) T (g.L.Link.seen l.fn.link) l.fn.self
       → HoldsBy (record { says = g.H.Hijack.says; ends = g.H.Hijack.ends }) T (g.L.Link.seen l.link) l.self;
   any : (T : Teller g.row.H.Denot) → HoldsBy (record { says = g.H.Hijack.says; ends = g.H.Hijack.ends }) T (g.L.Link.seen l.fn.link) l.fn.self
       → RunsBy (record { says = g.H.Hijack.says; ends = g.H.Hijack.ends }) T l.fn.self.calls (g.L.Link.seen l.link) l.self;
   turning : Turning (shows l.fn.self) (shows l.self) (g.L.Link.seen l.fn.link) (g.L.Link.seen l.link) l.left;
-  moving : Moving (left_at (shows l.fn.self) (g.L.Link.seen l.fn.link) full false) (left_at (shows l.self) (g.L.Link.seen l.link) l.left false);
+  moving : Moving l.fn.now (left_at (shows l.fn.self) (g.L.Link.seen l.fn.link) full false) (left_at (shows l.self) (g.L.Link.seen l.link) l.left false);
   counts : g.R.Runner.runs l.runner + l.left.runs ≡ g.R.Runner.runs l.fn.runner + 10;
   steady : g.R.Runner.steady ≡ true → (ps : Pairs) (input : List ℕ) → g.R.Runner.answer l.runner ps input ≡ g.R.Runner.answer l.fn.runner ps input;
 }

@@ -1,4 +1,4 @@
-use Rattle.std.proofs.Common.{◌≡◌, ◌<◌, ◌≤◌, ℕ, List, [], length, take, refl, sym, ap, subst, ◌∙◌, arith}
+use Rattle.std.proofs.Common.{◌≡◌, ◌<◌, ◌≤◌, ℕ, List, [], length, take, refl, sym, ap, subst, ◌∙◌, arith, None, Some}
 use Rattle.std.proofs.lemmas.Bool.Decides.{nat_tests}
 use Rattle.std.proofs.lemmas.List.{nil_from_length}
 use Rattle.rack_outside.specs.declared.link.LinkWrite.TheVariants as write
@@ -7,14 +7,17 @@ use Rattle.talk_core.specs.Tail.{Voice}
 use Rattle.conn_core.specs.declared.place.At.{At}
 use Rattle.conn_core.specs.declared.place.At.TheVariants as at
 use Rattle.conn_core.specs.Holds.{kept}
-use Rattle.conn_core.specs.Moves.{ring_room}
+use Rattle.conn_core.specs.Keeps.{Keeps, Write, ring_room}
 use Rattle.conn_core.specs.Place.{state_at}
-use Rattle.conn_core.specs.Shown.{owed_at, why_at}
-use Rattle.conn_core.specs.Steps.{CompletesTo}
-use Rattle.conn_core.proofs.CompleteLemmas.{completes_hold}
+use Rattle.conn_core.specs.Rests.{Begins}
+use Rattle.conn_core.specs.Shown.{shows, owed_at, why_at}
+use Rattle.conn_core.specs.Steps.{CompletesTo, BeginsAs}
+use Rattle.conn_core.proofs.FilledLemmas.{shown_at}
+use Rattle.conn_core.proofs.KeepsLemmas.{begins_as, filled_is, took_keeps, some_keeps, none_keeps, failed_keeps, lacked_keeps}
+use Rattle.conn_core.proofs.CompleteLemmas.{completes_hold, completes_rest}
 use Rattle.conn_core.proofs.PlaceLemmas.{stands_place}
 use Rattle.conn_core.proofs.SaidLemmas.{moved_by_write, filled_says, filled_ring, filled_owes, SaidShown, said_on, said_over, said_whole, waiting_shown}
-use Rattle.conn_core.proofs.SayLemmas.{took, write_failed, with_ring}
+use Rattle.conn_core.proofs.SayLemmas.{took, write_failed, write_lacks, with_ring}
 use Rattle.conn_core.proofs.MoveLemmas.{some_not, fills_front, took_some, took_none, took_all}
 use Rattle.conn_core.proofs.SaysLemmas.{wrote_once}
 use Rattle.conn_core.proofs.inside.Inside.write.Goals as goal
@@ -27,12 +30,12 @@ returns-then-is_empty-clause-holds g c = λ T h.
     let p = c.args.self.now in
     let none : c.send.new.ring.items ≡ [] =
     nil_from_length c.send.new.ring.items (grind (arith, nat_tests, c.is_empty.ensures, c.if-is_empty.true)) in
-    let completes : CompletesTo V p.at p.intake p.held c.complete-at.result c.complete-at.new.intake c.complete-at.new.held c.complete-at.new.ring.items =
-    subst (λ (a : At g.row.B.Denot g.row.H.Denot). CompletesTo V a p.intake p.held c.complete-at.result c.complete-at.new.intake c.complete-at.new.held
+    let completes : CompletesTo p.ending.late V p.at p.intake p.held c.complete-at.result c.complete-at.new.intake c.complete-at.new.held c.complete-at.new.ring.items =
+    subst (λ (a : At g.row.B.Denot g.row.H.Denot). CompletesTo p.ending.late V a p.intake p.held c.complete-at.result c.complete-at.new.intake c.complete-at.new.held
     c.complete-at.new.ring.items) c.replace-at.ensures.value c.complete-at.ensures.completes in
     stands_place c.complete-at.result c.put.new.at V T s' p.peer _ (sym c.put.ensures)
     (completes_hold V T s' p.peer (with_ring (kept p) c.send.new.ring.items) c.complete-at.new.intake c.complete-at.new.held p.ring.items
-    c.complete-at.new.ring.items p.at c.complete-at.result none completes c.requires
+    c.complete-at.new.ring.items p.at c.complete-at.result none completes c.requires p.rests
     (took p.at V T s s' p.peer (kept p) (filled_says p.at p.ring.items c.requires) c.in-Took.ensures.keeps c.in-Took.ensures.sends.0
     c.send.new.ring.items c.in-Took.ensures.sends.1 c.in-Took.ensures.sends.3 h))
 
@@ -46,12 +49,12 @@ returns-then-is_empty-clause-says g c =
     nil_from_length c.send.new.ring.items (grind (arith, nat_tests, c.is_empty.ensures, c.if-is_empty.true)) in
     let left = c.complete-at.new.held in
     let ring = c.complete-at.new.ring.items in
-    let completes : CompletesTo V p.at p.intake p.held c.put.new.at c.complete-at.new.intake left ring =
-    subst (λ (b : At g.row.B.Denot g.row.H.Denot). CompletesTo V p.at p.intake p.held b c.complete-at.new.intake left ring) (sym c.put.ensures)
-    (subst (λ (a : At g.row.B.Denot g.row.H.Denot). CompletesTo V a p.intake p.held c.complete-at.result c.complete-at.new.intake left ring)
+    let completes : CompletesTo p.ending.late V p.at p.intake p.held c.put.new.at c.complete-at.new.intake left ring =
+    subst (λ (b : At g.row.B.Denot g.row.H.Denot). CompletesTo p.ending.late V p.at p.intake p.held b c.complete-at.new.intake left ring) (sym c.put.ensures)
+    (subst (λ (a : At g.row.B.Denot g.row.H.Denot). CompletesTo p.ending.late V a p.intake p.held c.complete-at.result c.complete-at.new.intake left ring)
     c.replace-at.ensures.value c.complete-at.ensures.completes) in
-    let shown : SaidShown p.at c.put.new.at p.ring.items ring p.calls s s' =
-    said_whole V p.at c.put.new.at p.ring.items ring p.calls s s' p.intake c.complete-at.new.intake p.held left completes c.requires p.rests
+    let shown : SaidShown p.ending.late p.at c.put.new.at p.ring.items ring p.calls s s' =
+    said_whole p.ending.late V p.at c.put.new.at p.ring.items ring p.calls s s' p.intake c.complete-at.new.intake p.held left p.ending completes c.requires p.rests
     c.in-Took.ensures.keeps.over in
     record {
       moved = moved_by_write _ _ s s' refl refl refl c.in-Took.ensures.keeps refl;
@@ -78,8 +81,8 @@ returns-else-is_empty-clause-says g c =
     let s = g.L.Link.seen c.args.link.now in
     let s' = g.L.Link.seen c.send.new.link in
     let p = c.args.self.now in
-    let shown : SaidShown p.at p.at p.ring.items c.send.new.ring.items p.calls s s' =
-    said_on p.at p.ring.items c.in-Took.ensures.sends.0 c.send.new.ring.items p.calls s s' c.requires c.in-Took.ensures.sends.1
+    let shown : SaidShown p.ending.late p.at p.at p.ring.items c.send.new.ring.items p.calls s s' =
+    said_on p.ending.late p.at p.ring.items c.in-Took.ensures.sends.0 c.send.new.ring.items p.calls s s' c.requires c.in-Took.ensures.sends.1
     c.in-Took.ensures.sends.2 c.in-Took.ensures.keeps.over in
     record {
       moved = moved_by_write _ _ s s' refl refl refl c.in-Took.ensures.keeps refl;
@@ -97,7 +100,7 @@ returns-in-NotYet-clause-says g c =
     let s = g.L.Link.seen c.args.link.now in
     let s' = g.L.Link.seen c.send.new.link in
     let p = c.args.self.now in
-    let shown = waiting_shown p.at p.ring.items p.calls s s' c.requires c.in-NotYet.ensures.keeps.over in
+    let shown = waiting_shown p.ending.late p.at p.ring.items p.calls s s' c.requires c.in-NotYet.ensures.keeps.over in
     let owed : length (owed_at p.at c.send.new.ring.items) ≤ length (owed_at p.at p.ring.items) =
     subst (λ (x : List ℕ). length (owed_at p.at x) ≤ length (owed_at p.at p.ring.items)) (sym c.in-NotYet.ensures.sends.0) (omega arith) in
     let some : 0 < length c.send.new.ring.items =
@@ -125,7 +128,7 @@ returns-in-Failed-clause-holds g c = λ T h.
     let s' = g.L.Link.seen c.send.new.link in
     let p = c.args.self.now in
     stands_place (at.Over why.WriteFailed) c.put-in-Failed.new.at V T s' p.peer _ (sym c.put-in-Failed.ensures)
-    (write_failed p.at V T s s' p.peer (kept p) (filled_says p.at p.ring.items c.requires) c.in-Failed.ensures.keeps _ refl refl
+    (write_failed p.at V T s s' p.peer (kept p) (filled_says p.at p.ring.items c.requires) c.in-Failed.ensures.keeps _ refl refl refl
     (filled_ring p.at p.ring.items c.requires) c.in-Failed.ensures.sends.1 c.in-Failed.ensures.sends.2 h)
 
 pub returns-in-Failed-clause-says : goal.returns-in-Failed-clause-says
@@ -133,9 +136,9 @@ returns-in-Failed-clause-says g c =
     let s = g.L.Link.seen c.args.link.now in
     let s' = g.L.Link.seen c.send.new.link in
     let p = c.args.self.now in
-    let shown : SaidShown p.at c.put-in-Failed.new.at p.ring.items c.send.new.ring.items p.calls s s' =
-    subst (λ (b : At g.row.B.Denot g.row.H.Denot). SaidShown p.at b p.ring.items c.send.new.ring.items p.calls s s') (sym c.put-in-Failed.ensures)
-    (said_over p.at why.WriteFailed p.ring.items c.send.new.ring.items p.calls s s' c.requires tt
+    let shown : SaidShown p.ending.late p.at c.put-in-Failed.new.at p.ring.items c.send.new.ring.items p.calls s s' =
+    subst (λ (b : At g.row.B.Denot g.row.H.Denot). SaidShown p.ending.late p.at b p.ring.items c.send.new.ring.items p.calls s s') (sym c.put-in-Failed.ensures)
+    (said_over p.ending.late p.at why.WriteFailed p.ring.items c.send.new.ring.items p.calls s s' c.requires tt
     (c.in-Failed.ensures.keeps.over, c.in-Failed.ensures.sends.2)) in
     record {
       moved = moved_by_write _ _ s s' refl refl refl c.in-Failed.ensures.keeps refl;
@@ -153,9 +156,9 @@ returns-in-NoMemory-clause-says g c =
     let s = g.L.Link.seen c.args.link.now in
     let s' = g.L.Link.seen c.send.new.link in
     let p = c.args.self.now in
-    let shown : SaidShown p.at c.put-in-NoMemory.new.at p.ring.items c.send.new.ring.items p.calls s s' =
-    subst (λ (b : At g.row.B.Denot g.row.H.Denot). SaidShown p.at b p.ring.items c.send.new.ring.items p.calls s s') (sym c.put-in-NoMemory.ensures)
-    (said_over p.at why.NoMemory p.ring.items c.send.new.ring.items p.calls s s' c.requires tt c.in-NoMemory.ensures.keeps.over) in
+    let shown : SaidShown p.ending.late p.at c.put-in-NoMemory.new.at p.ring.items c.send.new.ring.items p.calls s s' =
+    subst (λ (b : At g.row.B.Denot g.row.H.Denot). SaidShown p.ending.late p.at b p.ring.items c.send.new.ring.items p.calls s s') (sym c.put-in-NoMemory.ensures)
+    (said_over p.ending.late p.at why.NoMemory p.ring.items c.send.new.ring.items p.calls s s' c.requires tt c.in-NoMemory.ensures.keeps.over) in
     record {
       moved = moved_by_write _ _ s s' refl refl refl c.in-NoMemory.ensures.keeps refl;
       came = refl;
@@ -181,16 +184,24 @@ returns-then-is_empty-clause-once g c =
     nil_from_length c.send.new.ring.items (grind (arith, nat_tests, c.is_empty.ensures, c.if-is_empty.true)) in
     let left = c.complete-at.new.held in
     let ring = c.complete-at.new.ring.items in
-    let completes : CompletesTo V p.at p.intake p.held c.put.new.at c.complete-at.new.intake left ring =
-    subst (λ (b : At g.row.B.Denot g.row.H.Denot). CompletesTo V p.at p.intake p.held b c.complete-at.new.intake left ring) (sym c.put.ensures)
-    (subst (λ (a : At g.row.B.Denot g.row.H.Denot). CompletesTo V a p.intake p.held c.complete-at.result c.complete-at.new.intake left ring)
+    let completes : CompletesTo p.ending.late V p.at p.intake p.held c.put.new.at c.complete-at.new.intake left ring =
+    subst (λ (b : At g.row.B.Denot g.row.H.Denot). CompletesTo p.ending.late V p.at p.intake p.held b c.complete-at.new.intake left ring) (sym c.put.ensures)
+    (subst (λ (a : At g.row.B.Denot g.row.H.Denot). CompletesTo p.ending.late V a p.intake p.held c.complete-at.result c.complete-at.new.intake left ring)
     c.replace-at.ensures.value c.complete-at.ensures.completes) in (
       write.Took n,
       refl,
       wrote_once (write.Took n) _ _ s s' p.ring.items front e.writes e.keeps e.ahead (record { peer = refl; local = refl; lives = refl; taken = refl })
           refl
-          (took_all p.peer p.local p.lives.items p.calls p.taken V p.at c.put.new.at p.ring.items ring p.held left n p.intake c.complete-at.new.intake
+          (took_all p.peer p.local p.lives.items p.calls p.taken p.ending p.moments _ V p.at c.put.new.at p.ring.items ring p.held left n p.intake c.complete-at.new.intake
           completes c.requires p.rests (sym none ∙ e.off) e.writes.1),
+      subst (λ (k : ℕ). Keeps c.args.now (Write (write.Took n)) (shows p)
+          (shown_at c.put.new.at ring left p.peer p.local p.lives.items p.calls p.taken p.ending
+          (record p.moments { took = Some c.args.now; begun = c.begins-self.result; filled = k })))
+          (sym (filled_is c.args.now p.moments.filled c.filled-self.result ring c.is_empty-then-is_empty.result c.is_empty-then-is_empty.ensures c.filled-self.ensures))
+          (took_keeps c.args.now p.peer p.local p.lives.items p.calls p.taken p.ending p.moments V p.at c.put.new.at p.ring.items ring p.held left n
+          p.intake c.complete-at.new.intake c.begins-self.result completes
+          (subst (λ (b : At g.row.B.Denot g.row.H.Denot). BeginsAs b c.complete-at.new.intake c.args.now None c.begins-self.result) (sym c.put.ensures)
+          c.begins-self.ensures) c.requires few (sym none ∙ e.off) e.writes.1),
     )
 
 pub returns-else-is_empty-clause-once : goal.returns-else-is_empty-clause-once
@@ -207,7 +218,9 @@ returns-else-is_empty-clause-once g c =
       refl,
       wrote_once (write.Took n) _ _ s s' p.ring.items front e.writes e.keeps e.ahead (record { peer = refl; local = refl; lives = refl; taken = refl })
           refl
-          (took_some p.peer p.local p.lives.items p.calls p.taken p.at p.ring.items c.send.new.ring.items p.held n c.requires e.off e.writes.1 some),
+          (took_some p.peer p.local p.lives.items p.calls p.taken p.ending p.moments _ p.at p.ring.items c.send.new.ring.items p.held n c.requires e.off e.writes.1 some),
+      some_keeps c.args.now p.peer p.local p.lives.items p.calls p.taken p.ending p.moments p.at p.ring.items c.send.new.ring.items p.held n c.requires few
+          e.off e.writes.1 some,
     )
 
 pub returns-in-NotYet-clause-once : goal.returns-in-NotYet-clause-once
@@ -217,9 +230,12 @@ returns-in-NotYet-clause-once g c =
     let p = c.args.self.now in
     let e = c.in-NotYet.ensures in
     let few : length p.ring.items ≤ ring_room = omega (arith, e.within, p.room) in
-    let front : p.ring.items ≡ take ring_room (owed_at p.at p.ring.items) = fills_front p.at p.ring.items c.requires few in
-    wrote_once write.NotYet _ _ s s' p.ring.items front e.writes e.keeps e.ahead (record { peer = refl; local = refl; lives = refl; taken = refl })
-    refl (took_none p.peer p.local p.lives.items p.calls p.taken p.at p.ring.items c.send.new.ring.items p.held c.requires e.off)
+    let front : p.ring.items ≡ take ring_room (owed_at p.at p.ring.items) = fills_front p.at p.ring.items c.requires few in (
+      wrote_once write.NotYet _ _ s s' p.ring.items front e.writes e.keeps e.ahead (record { peer = refl; local = refl; lives = refl; taken = refl })
+          refl (took_none p.peer p.local p.lives.items p.calls p.taken p.ending p.moments _ p.at p.ring.items c.send.new.ring.items p.held c.requires e.off),
+      none_keeps c.args.now p.peer p.local p.lives.items p.calls p.taken p.ending p.moments p.at p.ring.items c.send.new.ring.items p.held c.requires few
+          e.off,
+    )
 
 pub returns-in-Failed-clause-once : goal.returns-in-Failed-clause-once
 returns-in-Failed-clause-once g c =
@@ -237,6 +253,9 @@ returns-in-Failed-clause-once g c =
             ap (λ (a : At g.row.B.Denot g.row.H.Denot). state_at a) place,
             ap (λ (a : At g.row.B.Denot g.row.H.Denot). why_at a) place,
           ),
+      subst (λ (d : At g.row.B.Denot g.row.H.Denot). Keeps c.args.now (Write write.Failed) (shows p)
+          (shown_at d c.send.new.ring.items p.held p.peer p.local p.lives.items p.calls p.taken p.ending p.moments)) (sym place)
+          (failed_keeps c.args.now p.peer p.local p.lives.items p.calls p.taken p.ending p.moments p.at why.WriteFailed p.ring.items c.send.new.ring.items p.held p.held),
     )
 
 pub returns-in-NoMemory-clause-once : goal.returns-in-NoMemory-clause-once
@@ -255,4 +274,34 @@ returns-in-NoMemory-clause-once g c =
             ap (λ (a : At g.row.B.Denot g.row.H.Denot). state_at a) place,
             ap (λ (a : At g.row.B.Denot g.row.H.Denot). why_at a) place,
           ),
+      subst (λ (d : At g.row.B.Denot g.row.H.Denot). Keeps c.args.now (Write write.NoMemory) (shows p)
+          (shown_at d c.send.new.ring.items p.held p.peer p.local p.lives.items p.calls p.taken p.ending p.moments)) (sym place)
+          (lacked_keeps c.args.now p.peer p.local p.lives.items p.calls p.taken p.ending p.moments p.at why.NoMemory p.ring.items c.send.new.ring.items p.held p.held),
     )
+
+pub invariant_of-self : goal.invariant_of-self
+invariant_of-self g c =
+    let V : Voice g.row.H.Denot = record { says = g.H.Hijack.says; ends = g.H.Hijack.ends } in
+    let p = c.args.self.now in
+    let left = c.complete-at.new.held in
+    let ring = c.complete-at.new.ring.items in
+    let completes : CompletesTo p.ending.late V p.at p.intake p.held c.put.new.at c.complete-at.new.intake left ring =
+    subst (λ (b : At g.row.B.Denot g.row.H.Denot). CompletesTo p.ending.late V p.at p.intake p.held b c.complete-at.new.intake left ring) (sym c.put.ensures)
+    (subst (λ (a : At g.row.B.Denot g.row.H.Denot). CompletesTo p.ending.late V a p.intake p.held c.complete-at.result c.complete-at.new.intake left ring)
+    c.replace-at.ensures.value c.complete-at.ensures.completes) in
+    record {
+      room = c.complete-at.ensures.room ∙ c.send.ensures.room ∙ p.room;
+      rests = completes_rest V p.at c.put.new.at p.intake c.complete-at.new.intake p.held left p.ring.items ring p.calls p.ending completes c.requires p.rests;
+      begins = subst (λ (a : At g.row.B.Denot g.row.H.Denot). Begins a c.complete-at.new.intake c.begins-self.result) (sym c.put.ensures)
+          (begins_as c.complete-at.result c.complete-at.new.intake c.args.now None c.begins-self.result c.begins-self.ensures);
+    }
+
+pub returns-in-NoMemory-clause-holds : goal.returns-in-NoMemory-clause-holds
+returns-in-NoMemory-clause-holds g c = λ T h.
+    let V : Voice g.row.H.Denot = record { says = g.H.Hijack.says; ends = g.H.Hijack.ends } in
+    let s = g.L.Link.seen c.args.link.now in
+    let s' = g.L.Link.seen c.send.new.link in
+    let p = c.args.self.now in
+    stands_place (at.Over why.NoMemory) c.put-in-NoMemory.new.at V T s' p.peer _ (sym c.put-in-NoMemory.ensures)
+    (write_lacks p.at V T s s' p.peer (kept p) (filled_says p.at p.ring.items c.requires) c.in-NoMemory.ensures.keeps _ refl refl refl
+    c.in-NoMemory.ensures.sends.1 h)

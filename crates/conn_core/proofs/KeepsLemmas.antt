@@ -1,0 +1,712 @@
+-- What the moves of a connection do to its ring and to the moments that it keeps.
+use Rattle.std.proofs.Common.{◌≡◌, ◌≢◌, ℕ, ◌<◌, ◌≤◌, Bool, true, false, List, [], ◌∷◌, length, take, drop, refl, sym, ap, subst, ◌∙◌, arith, Option, None, Some, ◌⊎◌, inl, inr}
+use Rattle.std.specs.Prelude.{not, ◌&&◌, ◌||◌, ◌==◌, ⊤}
+use Rattle.std.proofs.lemmas.Bool.Decides.{nat_tests}
+use Rattle.rack_outside.specs.declared.link.LinkRead.{LinkRead}
+use Rattle.rack_outside.specs.declared.link.LinkRead.TheVariants as read
+use Rattle.rack_outside.specs.declared.link.LinkWrite.{LinkWrite}
+use Rattle.rack_outside.specs.declared.link.LinkWrite.TheVariants as write
+use Rattle.rack_types.specs.declared.answer.Answer.{Answer}
+use Rattle.rack_types.specs.declared.fault.Fault.{Fault}
+use Rattle.rack_types.specs.declared.peer.Local.{Local}
+use Rattle.rack_types.specs.Body.{Content}
+use Rattle.rack_types.specs.Env.{Pairs}
+use Rattle.circular_buffer.specs.Buffer.{Buffer}
+use Rattle.message_framing.specs.declared.intake.Intake.{Intake}
+use Rattle.reply_framing.specs.declared.types.Ask.{Ask}
+use Rattle.talk_core.specs.declared.ended.Life.{Life}
+use Rattle.talk_core.specs.declared.ended.Why.{Why}
+use Rattle.talk_core.specs.declared.ended.Why.TheVariants as why
+use Rattle.talk_core.specs.Tail.{Voice}
+use Rattle.conn_core.specs.declared.moments.Ending.{Ending}
+use Rattle.conn_core.specs.declared.moments.Moments.{Moments}
+use Rattle.conn_core.specs.declared.place.At.{At}
+use Rattle.conn_core.specs.declared.place.At.TheVariants as at
+use Rattle.conn_core.specs.declared.state.State.{State}
+use Rattle.conn_core.specs.declared.state.State.TheVariants as state
+use Rattle.conn_core.specs.Inner.{IsFilledAt, Fills}
+use Rattle.conn_core.specs.Keeps.{Keeps, Move, Run, Refusal, Want, Read, Write, ring_room, no_bytes, filled_if, filled_then, took_by, says_behind, still_in, ring_by, BegunBy, BegunFrom, ending_run}
+use Rattle.conn_core.specs.Moments.{ended_by}
+use Rattle.conn_core.specs.Place.{IsSaying, IsHearing, state_at}
+use Rattle.conn_core.specs.Rests.{Begins}
+use Rattle.conn_core.specs.Shown.{Shown, owed_at, ring_at}
+use Rattle.conn_core.specs.Steps.{FeedsHeld, BeginsAs, BeginsAt, Tells, TellsEnd, HandsOn, EndsOn, FillsTo, CompletesTo}
+use Rattle.conn_core.proofs.FilledLemmas.{shown_at}
+use Rattle.conn_core.proofs.MoveLemmas.{owed_left, fills_front, some_not}
+use Rattle.conn_core.proofs.SaidLemmas.{filled_ring, filled_owes}
+
+-- more of a request is read nowhere else
+pub begins_elsewhere : {B H : Type 0} (b : At B H) (intake : Intake) (begun : Option ℕ) → state_at b ≢ state.Reading → Begins b intake begun
+begins_elsewhere {B} {H} at.Reading intake begun unread = absurd (unread refl)
+begins_elsewhere {B} {H} at.Asked intake begun unread = tt
+begins_elsewhere {B} {H} (at.Refused f) intake begun unread = tt
+begins_elsewhere {B} {H} (at.Answering f) intake begun unread = tt
+begins_elsewhere {B} {H} (at.Writing keeps) intake begun unread = tt
+begins_elsewhere {B} {H} (at.Handing h) intake begun unread = tt
+begins_elsewhere {B} {H} at.Refusing intake begun unread = tt
+begins_elsewhere {B} {H} (at.Taken h) intake begun unread = tt
+begins_elsewhere {B} {H} (at.Speaking h) intake begun unread = tt
+begins_elsewhere {B} {H} at.Parting intake begun unread = tt
+begins_elsewhere {B} {H} (at.Over w) intake begun unread = tt
+
+pub begins_as : {B H : Type 0} (b : At B H) (intake : Intake) (now : ℕ) (before begun : Option ℕ) → BeginsAs b intake now before begun → Begins b intake begun
+begins_as {B} {H} at.Reading intake now before begun m = m.0
+begins_as {B} {H} at.Asked intake now before begun m = tt
+begins_as {B} {H} (at.Refused f) intake now before begun m = tt
+begins_as {B} {H} (at.Answering f) intake now before begun m = tt
+begins_as {B} {H} (at.Writing keeps) intake now before begun m = tt
+begins_as {B} {H} (at.Handing h) intake now before begun m = tt
+begins_as {B} {H} at.Refusing intake now before begun m = tt
+begins_as {B} {H} (at.Taken h) intake now before begun m = tt
+begins_as {B} {H} (at.Speaking h) intake now before begun m = tt
+begins_as {B} {H} at.Parting intake now before begun m = tt
+begins_as {B} {H} (at.Over w) intake now before begun m = tt
+
+pub begins_told : {B H : Type 0} (V : Voice H) (who : H) (piece ring left : List ℕ) (b : At B H) (intake : Intake) (begun : Option ℕ) → Tells V who piece b ring left → Begins b intake begun
+begins_told {B} {H} V who piece ring left at.Reading intake begun t = absurd t
+begins_told {B} {H} V who piece ring left at.Asked intake begun t = tt
+begins_told {B} {H} V who piece ring left (at.Refused f) intake begun t = tt
+begins_told {B} {H} V who piece ring left (at.Answering f) intake begun t = tt
+begins_told {B} {H} V who piece ring left (at.Writing keeps) intake begun t = tt
+begins_told {B} {H} V who piece ring left (at.Handing h) intake begun t = tt
+begins_told {B} {H} V who piece ring left at.Refusing intake begun t = tt
+begins_told {B} {H} V who piece ring left (at.Taken h) intake begun t = tt
+begins_told {B} {H} V who piece ring left (at.Speaking h) intake begun t = tt
+begins_told {B} {H} V who piece ring left at.Parting intake begun t = tt
+begins_told {B} {H} V who piece ring left (at.Over w) intake begun t = tt
+
+pub begins_end : {B H : Type 0} (V : Voice H) (who : H) (ring : List ℕ) (b : At B H) (intake : Intake) (begun : Option ℕ) → TellsEnd V who b ring → Begins b intake begun
+begins_end {B} {H} V who ring at.Reading intake begun t = absurd t
+begins_end {B} {H} V who ring at.Asked intake begun t = tt
+begins_end {B} {H} V who ring (at.Refused f) intake begun t = tt
+begins_end {B} {H} V who ring (at.Answering f) intake begun t = tt
+begins_end {B} {H} V who ring (at.Writing keeps) intake begun t = tt
+begins_end {B} {H} V who ring (at.Handing h) intake begun t = tt
+begins_end {B} {H} V who ring at.Refusing intake begun t = tt
+begins_end {B} {H} V who ring (at.Taken h) intake begun t = tt
+begins_end {B} {H} V who ring (at.Speaking h) intake begun t = tt
+begins_end {B} {H} V who ring at.Parting intake begun t = tt
+begins_end {B} {H} V who ring (at.Over w) intake begun t = tt
+
+pub begins_heard : {B H : Type 0} (V : Voice H) (a b : At B H) (piece before ring left : List ℕ) (intake : Intake) (begun : Option ℕ) → IsHearing a
+    → HandsOn V a piece before b ring left → Begins b intake begun
+begins_heard {B} {H} V at.Reading b piece before ring left intake begun is e = absurd is
+begins_heard {B} {H} V at.Asked b piece before ring left intake begun is e = absurd is
+begins_heard {B} {H} V (at.Refused f) b piece before ring left intake begun is e = absurd is
+begins_heard {B} {H} V (at.Answering f) b piece before ring left intake begun is e = absurd is
+begins_heard {B} {H} V (at.Writing keeps) b piece before ring left intake begun is e = absurd is
+begins_heard {B} {H} V (at.Handing h) b piece before ring left intake begun is e = absurd is
+begins_heard {B} {H} V at.Refusing b piece before ring left intake begun is e = absurd is
+begins_heard {B} {H} V (at.Taken h) b piece before ring left intake begun is e = begins_told V h piece ring left b intake begun e
+begins_heard {B} {H} V (at.Speaking h) b piece before ring left intake begun is e = absurd is
+begins_heard {B} {H} V at.Parting b piece before ring left intake begun is e = absurd is
+begins_heard {B} {H} V (at.Over w) b piece before ring left intake begun is e = absurd is
+
+pub begins_ended : {B H : Type 0} (V : Voice H) (a b : At B H) (ring : List ℕ) (intake : Intake) (begun : Option ℕ) → IsHearing a → EndsOn V a b ring
+    → Begins b intake begun
+begins_ended {B} {H} V at.Reading b ring intake begun is e = absurd is
+begins_ended {B} {H} V at.Asked b ring intake begun is e = absurd is
+begins_ended {B} {H} V (at.Refused f) b ring intake begun is e = absurd is
+begins_ended {B} {H} V (at.Answering f) b ring intake begun is e = absurd is
+begins_ended {B} {H} V (at.Writing keeps) b ring intake begun is e = absurd is
+begins_ended {B} {H} V (at.Handing h) b ring intake begun is e = absurd is
+begins_ended {B} {H} V at.Refusing b ring intake begun is e = absurd is
+begins_ended {B} {H} V (at.Taken h) b ring intake begun is e = begins_end V h ring b intake begun e
+begins_ended {B} {H} V (at.Speaking h) b ring intake begun is e = absurd is
+begins_ended {B} {H} V at.Parting b ring intake begun is e = absurd is
+begins_ended {B} {H} V (at.Over w) b ring intake begun is e = absurd is
+
+pub begins_filled : {B H : Type 0} (a b : At B H) (x y : Buffer ℕ) (intake : Intake) (begun : Option ℕ) → FillsTo a x b y → IsSaying a → Begins b intake begun
+begins_filled {B} {H} at.Reading b x y intake begun e is = absurd is
+begins_filled {B} {H} at.Asked b x y intake begun e is = absurd is
+begins_filled {B} {H} (at.Refused f) b x y intake begun e is = absurd is
+begins_filled {B} {H} (at.Answering f) at.Reading x y intake begun e is = absurd e
+begins_filled {B} {H} (at.Answering f) at.Asked x y intake begun e is = tt
+begins_filled {B} {H} (at.Answering f) (at.Refused fault) x y intake begun e is = tt
+begins_filled {B} {H} (at.Answering f) (at.Answering new) x y intake begun e is = tt
+begins_filled {B} {H} (at.Answering f) (at.Writing keeps) x y intake begun e is = tt
+begins_filled {B} {H} (at.Answering f) (at.Handing h) x y intake begun e is = tt
+begins_filled {B} {H} (at.Answering f) at.Refusing x y intake begun e is = tt
+begins_filled {B} {H} (at.Answering f) (at.Taken h) x y intake begun e is = tt
+begins_filled {B} {H} (at.Answering f) (at.Speaking h) x y intake begun e is = tt
+begins_filled {B} {H} (at.Answering f) at.Parting x y intake begun e is = tt
+begins_filled {B} {H} (at.Answering f) (at.Over w) x y intake begun e is = tt
+begins_filled {B} {H} (at.Writing keeps) b x y intake begun e is = subst (λ (d : At B H). Begins d intake begun) (sym e.0) tt
+begins_filled {B} {H} (at.Handing h) b x y intake begun e is = subst (λ (d : At B H). Begins d intake begun) (sym e.0) tt
+begins_filled {B} {H} at.Refusing b x y intake begun e is = subst (λ (d : At B H). Begins d intake begun) (sym e.0) tt
+begins_filled {B} {H} (at.Taken h) b x y intake begun e is = absurd is
+begins_filled {B} {H} (at.Speaking h) b x y intake begun e is = subst (λ (d : At B H). Begins d intake begun) (sym e.0) tt
+begins_filled {B} {H} at.Parting b x y intake begun e is = subst (λ (d : At B H). Begins d intake begun) (sym e.0) tt
+begins_filled {B} {H} (at.Over w) b x y intake begun e is = absurd is
+
+pub begins_run : {B H : Type 0} (V : Voice H) (a b : At B H) (ask : Ask) (ps : Pairs) (answer : Answer Content H) (last : Bool) (held before ring left : List ℕ)
+    (intake : Intake) (begun : Option ℕ) → BeginsAt ask ps answer last a → HandsOn V a held before b ring left → Begins b intake begun
+begins_run {B} {H} V at.Reading b ask ps answer last held before ring left intake begun f' e = absurd f'
+begins_run {B} {H} V at.Asked b ask ps answer last held before ring left intake begun f' e = absurd f'
+begins_run {B} {H} V (at.Refused f) b ask ps answer last held before ring left intake begun f' e = absurd f'
+begins_run {B} {H} V (at.Answering f) b ask ps answer last held before ring left intake begun f' e = subst (λ (d : At B H). Begins d intake begun) (sym e.0) tt
+begins_run {B} {H} V (at.Writing keeps) b ask ps answer last held before ring left intake begun f' e = absurd f'
+begins_run {B} {H} V (at.Handing h) b ask ps answer last held before ring left intake begun f' e = begins_told V h held ring left b intake begun e
+begins_run {B} {H} V at.Refusing b ask ps answer last held before ring left intake begun f' e = absurd f'
+begins_run {B} {H} V (at.Taken h) b ask ps answer last held before ring left intake begun f' e = absurd f'
+begins_run {B} {H} V (at.Speaking h) b ask ps answer last held before ring left intake begun f' e = absurd f'
+begins_run {B} {H} V at.Parting b ask ps answer last held before ring left intake begun f' e = absurd f'
+begins_run {B} {H} V (at.Over w) b ask ps answer last held before ring left intake begun f' e = subst (λ (d : At B H). Begins d intake begun) (sym e.0) tt
+
+-- the moment at which bytes came into an empty ring, by whether it is empty
+pub filled_is : (now before after : ℕ) (ring : List ℕ) (empty : Bool) → empty ≡ (length ring == 0) → after ≡ filled_if (not empty) now before
+    → after ≡ filled_if (not (no_bytes ring)) now before
+filled_is now before after ring empty none is = is ∙ ap (λ (b : Bool). filled_if (not b) now before) none
+
+-- the ring is shown while the connection lives
+ring_at_live : {B H : Type 0} (b : At B H) (ring : List ℕ) → state_at b ≢ state.Over → ring_at b ring ≡ ring
+ring_at_live {B} {H} at.Reading ring live = refl
+ring_at_live {B} {H} at.Asked ring live = refl
+ring_at_live {B} {H} (at.Refused f) ring live = refl
+ring_at_live {B} {H} (at.Answering f) ring live = refl
+ring_at_live {B} {H} (at.Writing keeps) ring live = refl
+ring_at_live {B} {H} (at.Handing h) ring live = refl
+ring_at_live {B} {H} at.Refusing ring live = refl
+ring_at_live {B} {H} (at.Taken h) ring live = refl
+ring_at_live {B} {H} (at.Speaking h) ring live = refl
+ring_at_live {B} {H} at.Parting ring live = refl
+ring_at_live {B} {H} (at.Over w) ring live = absurd (live refl)
+
+ring_at_filled : {B H : Type 0} (a : At B H) (ring : List ℕ) → IsFilledAt a ring → ring_at a ring ≡ ring
+ring_at_filled {B} {H} at.Reading ring is = refl
+ring_at_filled {B} {H} at.Asked ring is = refl
+ring_at_filled {B} {H} (at.Refused f) ring is = refl
+ring_at_filled {B} {H} (at.Answering f) ring is = refl
+ring_at_filled {B} {H} (at.Writing keeps) ring is = refl
+ring_at_filled {B} {H} (at.Handing h) ring is = refl
+ring_at_filled {B} {H} at.Refusing ring is = refl
+ring_at_filled {B} {H} (at.Taken h) ring is = refl
+ring_at_filled {B} {H} (at.Speaking h) ring is = refl
+ring_at_filled {B} {H} at.Parting ring is = refl
+ring_at_filled {B} {H} (at.Over w) ring is = absurd is
+
+-- and is all that is owed, where no reply is under way
+ring_whole : {B H : Type 0} (b : At B H) (ring : List ℕ) (move : Move) (old new : Shown) → state_at b ≢ state.Answering → new.owed ≡ owed_at b ring
+    → ring_at b ring ≡ ring_by (state_at b) move old new
+ring_whole {B} {H} at.Reading ring move old new unsaid e = sym e
+ring_whole {B} {H} at.Asked ring move old new unsaid e = sym e
+ring_whole {B} {H} (at.Refused f) ring move old new unsaid e = sym e
+ring_whole {B} {H} (at.Answering f) ring move old new unsaid e = absurd (unsaid refl)
+ring_whole {B} {H} (at.Writing keeps) ring move old new unsaid e = absurd (unsaid refl)
+ring_whole {B} {H} (at.Handing h) ring move old new unsaid e = absurd (unsaid refl)
+ring_whole {B} {H} at.Refusing ring move old new unsaid e = absurd (unsaid refl)
+ring_whole {B} {H} (at.Taken h) ring move old new unsaid e = sym e
+ring_whole {B} {H} (at.Speaking h) ring move old new unsaid e = sym e
+ring_whole {B} {H} at.Parting ring move old new unsaid e = sym e
+ring_whole {B} {H} (at.Over w) ring move old new unsaid e = refl
+
+-- the moment at which a request was begun, by where the connection is then
+begun_from : {B H : Type 0} (b : At B H) (intake : Intake) (now : ℕ) (before after : Option ℕ) → BeginsAs b intake now before after
+    → BegunFrom (state_at b) now before after
+begun_from {B} {H} at.Reading intake now before after m = m.1
+begun_from {B} {H} at.Asked intake now before after m = m
+begun_from {B} {H} (at.Refused f) intake now before after m = m
+begun_from {B} {H} (at.Answering f) intake now before after m = m
+begun_from {B} {H} (at.Writing keeps) intake now before after m = m
+begun_from {B} {H} (at.Handing h) intake now before after m = m
+begun_from {B} {H} at.Refusing intake now before after m = m
+begun_from {B} {H} (at.Taken h) intake now before after m = m
+begun_from {B} {H} (at.Speaking h) intake now before after m = m
+begun_from {B} {H} at.Parting intake now before after m = m
+begun_from {B} {H} (at.Over w) intake now before after m = tt
+
+begun_behind : {B H : Type 0} (b : At B H) (intake : Intake) (now : ℕ) (answer : LinkWrite) (before after : Option ℕ) → BeginsAs b intake now None after
+    → BegunBy now (Write answer) (state_at b) before after
+begun_behind {B} {H} at.Reading intake now answer before after m = m.1
+begun_behind {B} {H} at.Asked intake now answer before after m = m
+begun_behind {B} {H} (at.Refused f) intake now answer before after m = m
+begun_behind {B} {H} (at.Answering f) intake now answer before after m = inr m
+begun_behind {B} {H} (at.Writing keeps) intake now answer before after m = inr m
+begun_behind {B} {H} (at.Handing h) intake now answer before after m = inr m
+begun_behind {B} {H} at.Refusing intake now answer before after m = inr m
+begun_behind {B} {H} (at.Taken h) intake now answer before after m = inr m
+begun_behind {B} {H} (at.Speaking h) intake now answer before after m = inr m
+begun_behind {B} {H} at.Parting intake now answer before after m = inr m
+begun_behind {B} {H} (at.Over w) intake now answer before after m = inr m
+
+begun_still : {B H : Type 0} (a : At B H) (ring : List ℕ) (now : ℕ) (answer : LinkWrite) (before : Option ℕ) → IsFilledAt a ring
+    → BegunBy now (Write answer) (state_at a) before before
+begun_still {B} {H} at.Reading ring now answer before is = absurd is
+begun_still {B} {H} at.Asked ring now answer before is = absurd is
+begun_still {B} {H} (at.Refused f) ring now answer before is = absurd is
+begun_still {B} {H} (at.Answering f) ring now answer before is = inl refl
+begun_still {B} {H} (at.Writing keeps) ring now answer before is = inl refl
+begun_still {B} {H} (at.Handing h) ring now answer before is = inl refl
+begun_still {B} {H} at.Refusing ring now answer before is = inl refl
+begun_still {B} {H} (at.Taken h) ring now answer before is = absurd is
+begun_still {B} {H} (at.Speaking h) ring now answer before is = inl refl
+begun_still {B} {H} at.Parting ring now answer before is = inl refl
+begun_still {B} {H} (at.Over w) ring now answer before is = absurd is
+
+-- no bytes
+pub none_none : (xs : List ℕ) → xs ≡ [] → no_bytes xs ≡ true
+none_none xs e = ap no_bytes e
+
+pub none_some : (xs : List ℕ) → 0 < length xs → no_bytes xs ≡ false
+none_some xs some = grind (arith, nat_tests, some)
+
+some_none : (xs : List ℕ) → xs ≢ [] → no_bytes xs ≡ false
+some_none [] some = absurd (some refl)
+some_none (x ∷ xs) some = none_some (x ∷ xs) (omega arith)
+
+-- bytes did not come into an empty ring
+not_filled : (x y : Bool) (now k : ℕ) → x ≡ false → y ≡ false → filled_if (x || y) now k ≡ k
+not_filled false false now k e f = refl
+not_filled false true now k e f = cc
+not_filled true y now k e f = cc
+
+and_not : (x y : Bool) → y ≡ true → (x && not y) ≡ false
+and_not true y e = ap not e
+and_not false y e = refl
+
+and_false : (x y : Bool) → x ≡ false → (x && y) ≡ false
+and_false true y e = cc
+and_false false y e = refl
+
+filled_same : (x y z w : Bool) (now k : ℕ) → x ≡ false → y ≡ true → w ≡ z → filled_if (not z) now k ≡ filled_if (x || (y && not w)) now k
+filled_same true y z w now k e f g = cc
+filled_same false false z w now k e f g = cc
+filled_same false true z w now k e f g = ap (λ (b : Bool). filled_if (not b) now k) (sym g)
+
+owes : {B H : Type 0} (a : At B H) (before ring : List ℕ) → IsFilledAt a before → 0 < length ring → owed_at a ring ≢ []
+owes {B} {H} a before ring is some none = let more : 0 < length (owed_at a ring) = filled_owes a before ring is some in some_not (owed_at a ring) more none
+
+left_ring : {B H : Type 0} (a : At B H) (before after : List ℕ) (answer : LinkWrite) → IsFilledAt a before → before ≡ take ring_room (owed_at a before)
+    → after ≡ still_in answer before → (old new : Shown) → old.owed ≡ owed_at a before → new.owed ≡ owed_at a after
+    → ring_at a after ≡ ring_by (state_at a) (Write answer) old new
+left_ring {B} {H} at.Reading before after answer is front left old new o n = absurd is
+left_ring {B} {H} at.Asked before after answer is front left old new o n = absurd is
+left_ring {B} {H} (at.Refused f) before after answer is front left old new o n = absurd is
+left_ring {B} {H} (at.Answering f) before after answer is front left old new o n = left ∙ ap (still_in answer) (front ∙ ap (take ring_room) (sym o))
+left_ring {B} {H} (at.Writing keeps) before after answer is front left old new o n = left ∙ ap (still_in answer) (front ∙ ap (take ring_room) (sym o))
+left_ring {B} {H} (at.Handing h) before after answer is front left old new o n = left ∙ ap (still_in answer) (front ∙ ap (take ring_room) (sym o))
+left_ring {B} {H} at.Refusing before after answer is front left old new o n = left ∙ ap (still_in answer) (front ∙ ap (take ring_room) (sym o))
+left_ring {B} {H} (at.Taken h) before after answer is front left old new o n = absurd is
+left_ring {B} {H} (at.Speaking h) before after answer is front left old new o n = sym n
+left_ring {B} {H} at.Parting before after answer is front left old new o n = sym n
+left_ring {B} {H} (at.Over w) before after answer is front left old new o n = absurd is
+
+fed_unanswering : {B H : Type 0} (b : At B H) (old new : Intake) (held left : List ℕ) → FeedsHeld old held new left b → state_at b ≢ state.Answering
+fed_unanswering {B} {H} at.Reading old new held left f' e = cc
+fed_unanswering {B} {H} at.Asked old new held left f' e = cc
+fed_unanswering {B} {H} (at.Refused f) old new held left f' e = cc
+fed_unanswering {B} {H} (at.Answering f) old new held left f' e = absurd f'
+fed_unanswering {B} {H} (at.Writing keeps) old new held left f' e = absurd f'
+fed_unanswering {B} {H} (at.Handing h) old new held left f' e = absurd f'
+fed_unanswering {B} {H} at.Refusing old new held left f' e = absurd f'
+fed_unanswering {B} {H} (at.Taken h) old new held left f' e = absurd f'
+fed_unanswering {B} {H} (at.Speaking h) old new held left f' e = absurd f'
+fed_unanswering {B} {H} at.Parting old new held left f' e = absurd f'
+fed_unanswering {B} {H} (at.Over w) old new held left f' e = cc
+
+told_unanswering : {B H : Type 0} (V : Voice H) (who : H) (piece ring left : List ℕ) (b : At B H) → Tells V who piece b ring left → state_at b ≢ state.Answering
+told_unanswering {B} {H} V who piece ring left at.Reading t e = absurd t
+told_unanswering {B} {H} V who piece ring left at.Asked t e = absurd t
+told_unanswering {B} {H} V who piece ring left (at.Refused f) t e = absurd t
+told_unanswering {B} {H} V who piece ring left (at.Answering f) t e = absurd t
+told_unanswering {B} {H} V who piece ring left (at.Writing keeps) t e = absurd t
+told_unanswering {B} {H} V who piece ring left (at.Handing h) t e = absurd t
+told_unanswering {B} {H} V who piece ring left at.Refusing t e = absurd t
+told_unanswering {B} {H} V who piece ring left (at.Taken h) t e = cc
+told_unanswering {B} {H} V who piece ring left (at.Speaking h) t e = cc
+told_unanswering {B} {H} V who piece ring left at.Parting t e = cc
+told_unanswering {B} {H} V who piece ring left (at.Over w) t e = cc
+
+placed : {B H : Type 0} (b d : At B H) → b ≡ d → state_at d ≢ state.Answering → state_at b ≢ state.Answering
+placed {B} {H} b d e unsaid is = unsaid (sym (ap (λ (x : At B H). state_at x) e) ∙ is)
+
+-- a hijacker has it, or it ended
+abbrev IsTold : State → Type 0
+IsTold state.Reading = ⊥
+IsTold state.Ready = ⊥
+IsTold state.Answering = ⊥
+IsTold state.Hijacked = ⊤
+IsTold state.Over = ⊤
+
+told_is : {B H : Type 0} (V : Voice H) (who : H) (piece ring left : List ℕ) (b : At B H) → Tells V who piece b ring left → IsTold (state_at b)
+told_is {B} {H} V who piece ring left at.Reading t = absurd t
+told_is {B} {H} V who piece ring left at.Asked t = absurd t
+told_is {B} {H} V who piece ring left (at.Refused f) t = absurd t
+told_is {B} {H} V who piece ring left (at.Answering f) t = absurd t
+told_is {B} {H} V who piece ring left (at.Writing keeps) t = absurd t
+told_is {B} {H} V who piece ring left (at.Handing h) t = absurd t
+told_is {B} {H} V who piece ring left at.Refusing t = absurd t
+told_is {B} {H} V who piece ring left (at.Taken h) t = tt
+told_is {B} {H} V who piece ring left (at.Speaking h) t = tt
+told_is {B} {H} V who piece ring left at.Parting t = tt
+told_is {B} {H} V who piece ring left (at.Over w) t = tt
+
+end_is : {B H : Type 0} (V : Voice H) (who : H) (ring : List ℕ) (b : At B H) → TellsEnd V who b ring → IsTold (state_at b)
+end_is {B} {H} V who ring at.Reading t = absurd t
+end_is {B} {H} V who ring at.Asked t = absurd t
+end_is {B} {H} V who ring (at.Refused f) t = absurd t
+end_is {B} {H} V who ring (at.Answering f) t = absurd t
+end_is {B} {H} V who ring (at.Writing keeps) t = absurd t
+end_is {B} {H} V who ring (at.Handing h) t = absurd t
+end_is {B} {H} V who ring at.Refusing t = absurd t
+end_is {B} {H} V who ring (at.Taken h) t = tt
+end_is {B} {H} V who ring (at.Speaking h) t = tt
+end_is {B} {H} V who ring at.Parting t = tt
+end_is {B} {H} V who ring (at.Over w) t = tt
+
+heard_state : {B H : Type 0} (V : Voice H) (a b : At B H) (piece before ring left : List ℕ) → IsHearing a → HandsOn V a piece before b ring left → IsTold (state_at b)
+heard_state {B} {H} V at.Reading b piece before ring left is e = absurd is
+heard_state {B} {H} V at.Asked b piece before ring left is e = absurd is
+heard_state {B} {H} V (at.Refused f) b piece before ring left is e = absurd is
+heard_state {B} {H} V (at.Answering f) b piece before ring left is e = absurd is
+heard_state {B} {H} V (at.Writing keeps) b piece before ring left is e = absurd is
+heard_state {B} {H} V (at.Handing h) b piece before ring left is e = absurd is
+heard_state {B} {H} V at.Refusing b piece before ring left is e = absurd is
+heard_state {B} {H} V (at.Taken h) b piece before ring left is e = told_is V h piece ring left b e
+heard_state {B} {H} V (at.Speaking h) b piece before ring left is e = absurd is
+heard_state {B} {H} V at.Parting b piece before ring left is e = absurd is
+heard_state {B} {H} V (at.Over w) b piece before ring left is e = absurd is
+
+end_state : {B H : Type 0} (V : Voice H) (a b : At B H) (ring : List ℕ) → IsHearing a → EndsOn V a b ring → IsTold (state_at b)
+end_state {B} {H} V at.Reading b ring is e = absurd is
+end_state {B} {H} V at.Asked b ring is e = absurd is
+end_state {B} {H} V (at.Refused f) b ring is e = absurd is
+end_state {B} {H} V (at.Answering f) b ring is e = absurd is
+end_state {B} {H} V (at.Writing keeps) b ring is e = absurd is
+end_state {B} {H} V (at.Handing h) b ring is e = absurd is
+end_state {B} {H} V at.Refusing b ring is e = absurd is
+end_state {B} {H} V (at.Taken h) b ring is e = end_is V h ring b e
+end_state {B} {H} V (at.Speaking h) b ring is e = absurd is
+end_state {B} {H} V at.Parting b ring is e = absurd is
+end_state {B} {H} V (at.Over w) b ring is e = absurd is
+
+told_state : {B H : Type 0} (b : At B H) → IsTold (state_at b) → state_at b ≢ state.Answering
+told_state {B} {H} at.Reading t e = absurd t
+told_state {B} {H} at.Asked t e = absurd t
+told_state {B} {H} (at.Refused f) t e = absurd t
+told_state {B} {H} (at.Answering f) t e = absurd t
+told_state {B} {H} (at.Writing keeps) t e = absurd t
+told_state {B} {H} (at.Handing h) t e = absurd t
+told_state {B} {H} at.Refusing t e = absurd t
+told_state {B} {H} (at.Taken h) t e = cc
+told_state {B} {H} (at.Speaking h) t e = cc
+told_state {B} {H} at.Parting t e = cc
+told_state {B} {H} (at.Over w) t e = cc
+
+begun_told : {B H : Type 0} (b : At B H) (now : ℕ) (before : Option ℕ) → IsTold (state_at b) → BegunFrom (state_at b) now before before
+begun_told {B} {H} at.Reading now before t = absurd t
+begun_told {B} {H} at.Asked now before t = absurd t
+begun_told {B} {H} (at.Refused f) now before t = absurd t
+begun_told {B} {H} (at.Answering f) now before t = absurd t
+begun_told {B} {H} (at.Writing keeps) now before t = absurd t
+begun_told {B} {H} (at.Handing h) now before t = absurd t
+begun_told {B} {H} at.Refusing now before t = absurd t
+begun_told {B} {H} (at.Taken h) now before t = refl
+begun_told {B} {H} (at.Speaking h) now before t = refl
+begun_told {B} {H} at.Parting now before t = refl
+begun_told {B} {H} (at.Over w) now before t = tt
+
+run_unsaid : {B H : Type 0} (b d : At B H) (ring : List ℕ) → b ≡ d → state_at d ≡ state.Answering → ring ≡ [] → (o n : Shown)
+    → ring_at b ring ≡ ring_by (state_at b) Run o n
+run_unsaid {B} {H} b d ring e says none o n =
+    let is : state_at b ≡ state.Answering = ap (λ (x : At B H). state_at x) e ∙ says in
+    ring_at_live b ring (λ over. let x : state.Answering ≡ state.Over = sym is ∙ over in cc) ∙ none
+    ∙ ap (λ (x : State). ring_by x Run o n) (sym is)
+
+-- nothing is in the ring behind a run, where a reply is under way
+run_ring : {B H : Type 0} (V : Voice H) (x b : At B H) (ask : Ask) (ps : Pairs) (answer : Answer Content H) (end : Bool) (held before ring left : List ℕ)
+    → BeginsAt ask ps answer end x → HandsOn V x held before b ring left → before ≡ [] → (o n : Shown) → n.owed ≡ owed_at b ring
+    → ring_at b ring ≡ ring_by (state_at b) Run o n
+run_ring {B} {H} V at.Reading b ask ps answer end held before ring left f' hands none o n e = absurd f'
+run_ring {B} {H} V at.Asked b ask ps answer end held before ring left f' hands none o n e = absurd f'
+run_ring {B} {H} V (at.Refused f) b ask ps answer end held before ring left f' hands none o n e = absurd f'
+run_ring {B} {H} V (at.Answering f) b ask ps answer end held before ring left f' hands none o n e = run_unsaid b (at.Answering f) ring hands.0 refl (hands.1 ∙ none) o n
+run_ring {B} {H} V (at.Writing keeps) b ask ps answer end held before ring left f' hands none o n e = absurd f'
+run_ring {B} {H} V (at.Handing h) b ask ps answer end held before ring left f' hands none o n e = ring_whole b ring Run o n (told_unanswering V h held ring left b hands) e
+run_ring {B} {H} V at.Refusing b ask ps answer end held before ring left f' hands none o n e = absurd f'
+run_ring {B} {H} V (at.Taken h) b ask ps answer end held before ring left f' hands none o n e = absurd f'
+run_ring {B} {H} V (at.Speaking h) b ask ps answer end held before ring left f' hands none o n e = absurd f'
+run_ring {B} {H} V at.Parting b ask ps answer end held before ring left f' hands none o n e = absurd f'
+run_ring {B} {H} V (at.Over w) b ask ps answer end held before ring left f' hands none o n e = ring_whole b ring Run o n (placed b (at.Over w) hands.0 (λ x. cc)) e
+
+module _ {B H : Type 0} (now : ℕ) (peer : List ℕ) (local : Local) (lives : List Life) (calls taken : ℕ) (m : Ending) (t : Moments) where
+  -- the link took some of the ring, and not all
+  pub some_keeps : (a : At B H) (before after held : List ℕ) (n : ℕ) → IsFilledAt a before → length before ≤ ring_room → after ≡ drop n before
+      → n ≤ length before → 0 < length after
+      → Keeps now (Write (write.Took n)) (shown_at a before held peer local lives calls taken m t)
+      (shown_at a after held peer local lives calls taken m (record t { took = Some now }))
+  some_keeps a before after held n is few off within some = record {
+    ending = refl;
+    last = refl;
+    opened = refl;
+    took = refl;
+    filled = λ live. sym (not_filled (no_bytes (ring_at a before)) (no_bytes (drop n (owed_at a before)) && not (no_bytes (ring_at a after))) now t.filled
+        (ap no_bytes (ring_at_filled a before is) ∙ none_some before (filled_ring a before is))
+        (and_false (no_bytes (drop n (owed_at a before))) (not (no_bytes (ring_at a after)))
+        (ap no_bytes (sym (owed_left a before after n is off within)) ∙ some_none (owed_at a after) (owes a before after is some))));
+    begun = begun_still a before now (write.Took n) t.begun is;
+    ring = left_ring a before after (write.Took n) is (fills_front a before is few) off (shown_at a before held peer local lives calls taken m t)
+        (shown_at a after held peer local lives calls taken m (record t { took = Some now })) refl refl;
+  }
+
+  -- it had to wait
+  pub none_keeps : (a : At B H) (before after held : List ℕ) → IsFilledAt a before → length before ≤ ring_room → after ≡ before
+      → Keeps now (Write write.NotYet) (shown_at a before held peer local lives calls taken m t) (shown_at a after held peer local lives calls taken m t)
+  none_keeps a before after held is few same = record {
+    ending = refl;
+    last = refl;
+    opened = refl;
+    took = refl;
+    filled = λ live. sym (not_filled (no_bytes (ring_at a before)) false now t.filled
+        (ap no_bytes (ring_at_filled a before is) ∙ none_some before (filled_ring a before is)) refl);
+    begun = begun_still a before now write.NotYet t.begun is;
+    ring = left_ring a before after write.NotYet is (fills_front a before is few) same (shown_at a before held peer local lives calls taken m t)
+        (shown_at a after held peer local lives calls taken m t) refl refl;
+  }
+
+  -- the connection ended in a move that the link did not take
+  pub failed_keeps : (a : At B H) (w : Why) (before after held left : List ℕ)
+      → Keeps now (Write write.Failed) (shown_at a before held peer local lives calls taken m t)
+      (shown_at {B = B} {H = H} (at.Over w) after left peer local lives calls taken m t)
+  failed_keeps a w before after held left = record {
+    ending = refl;
+    last = refl;
+    opened = refl;
+    took = refl;
+    filled = λ live. absurd (live refl);
+    begun = inl refl;
+    ring = refl;
+  }
+
+  pub lacked_keeps : (a : At B H) (w : Why) (before after held left : List ℕ)
+      → Keeps now (Write write.NoMemory) (shown_at a before held peer local lives calls taken m t)
+      (shown_at {B = B} {H = H} (at.Over w) after left peer local lives calls taken m t)
+  lacked_keeps a w before after held left = record {
+    ending = refl;
+    last = refl;
+    opened = refl;
+    took = refl;
+    filled = λ live. absurd (live refl);
+    begun = inl refl;
+    ring = refl;
+  }
+
+  -- it took all of the ring, and nothing more is owed of it
+  all_keeps : (a b : At B H) (before ring held left : List ℕ) (n : ℕ) (new : Intake) (g : Option ℕ) → IsFilledAt a before → drop n (owed_at a before) ≡ []
+      → state_at b ≢ state.Answering → BeginsAs b new now None g
+      → Keeps now (Write (write.Took n)) (shown_at a before held peer local lives calls taken m t)
+      (shown_at b ring left peer local lives calls taken m (filled_then now ring (record t { took = Some now; begun = g })))
+  all_keeps a b before ring held left n new g is none unsaid begins = record {
+    ending = refl;
+    last = refl;
+    opened = refl;
+    took = refl;
+    filled = λ live. filled_same (no_bytes (ring_at a before)) (no_bytes (drop n (owed_at a before))) (no_bytes ring) (no_bytes (ring_at b ring)) now t.filled
+        (ap no_bytes (ring_at_filled a before is) ∙ none_some before (filled_ring a before is)) (none_none (drop n (owed_at a before)) none)
+        (ap no_bytes (ring_at_live b ring live));
+    begun = begun_behind b new now (write.Took n) t.begun g begins;
+    ring = ring_whole b ring (Write (write.Took n)) (shown_at a before held peer local lives calls taken m t)
+        (shown_at b ring left peer local lives calls taken m (filled_then now ring (record t { took = Some now; begun = g }))) unsaid refl;
+  }
+
+  -- more of the reply comes
+  more_keeps : (a b : At B H) (before ring held left : List ℕ) (n : ℕ) (g : Option ℕ) → IsFilledAt a before → length before ≤ ring_room → [] ≡ drop n before
+      → drop n (owed_at a before) ≢ [] → state_at a ≡ state.Answering → b ≡ a → ring ≡ [] → g ≡ None
+      → Keeps now (Write (write.Took n)) (shown_at a before held peer local lives calls taken m t)
+      (shown_at b ring left peer local lives calls taken m (filled_then now ring (record t { took = Some now; begun = g })))
+  more_keeps a b before ring held left n g is few off some saying same none unbegun = record {
+    ending = refl;
+    last = refl;
+    opened = refl;
+    took = refl;
+    filled = λ live. ap (λ (x : List ℕ). filled_if (not (no_bytes x)) now t.filled) none
+        ∙ sym (not_filled (no_bytes (ring_at a before)) (no_bytes (drop n (owed_at a before)) && not (no_bytes (ring_at b ring))) now t.filled
+        (ap no_bytes (ring_at_filled a before is) ∙ none_some before (filled_ring a before is))
+        (and_false (no_bytes (drop n (owed_at a before))) (not (no_bytes (ring_at b ring))) (some_none (drop n (owed_at a before)) some)));
+    begun = subst (λ (x : State). BegunBy now (Write (write.Took n)) x t.begun g) (sym (ap (λ (d : At B H). state_at d) same ∙ saying)) (inr unbegun);
+    ring = shown_ring b ring same ∙ none ∙ off ∙ ap (drop n) (fills_front a before is few)
+        ∙ ap (λ (x : State). ring_by x (Write (write.Took n)) (shown_at a before held peer local lives calls taken m t)
+        (shown_at b ring left peer local lives calls taken m (filled_then now ring (record t { took = Some now; begun = g }))))
+        (sym (ap (λ (d : At B H). state_at d) same ∙ saying));
+  }
+    where
+      live_of : (d : At B H) → state_at d ≡ state.Answering → state_at d ≢ state.Over
+      live_of d e over = let x : state.Answering ≡ state.Over = sym e ∙ over in cc
+
+      shown_ring : (d : At B H) (xs : List ℕ) → d ≡ a → ring_at d xs ≡ xs
+      shown_ring d xs e = ring_at_live d xs (live_of d (ap (λ (x : At B H). state_at x) e ∙ saying))
+
+  pub took_keeps : (V : Voice H) (a b : At B H) (before ring held left : List ℕ) (n : ℕ) (old new : Intake) (g : Option ℕ)
+      → CompletesTo m.late V a old held b new left ring → BeginsAs b new now None g → IsFilledAt a before → length before ≤ ring_room → [] ≡ drop n before
+      → n ≤ length before
+      → Keeps now (Write (write.Took n)) (shown_at a before held peer local lives calls taken m t)
+      (shown_at b ring left peer local lives calls taken m (filled_then now ring (record t { took = Some now; begun = g })))
+  took_keeps V at.Reading b before ring held left n old new g e begins is few off within = absurd is
+  took_keeps V at.Asked b before ring held left n old new g e begins is few off within = absurd is
+  took_keeps V (at.Refused f) b before ring held left n old new g e begins is few off within = absurd is
+  took_keeps V (at.Answering f) b before ring held left n old new g e begins is few off within =
+      more_keeps (at.Answering f) b before ring held left n g is few off
+      (λ none. some_not f.rest.bytes is.1 (owed_left {B = B} {H = H} (at.Answering f) before [] n is off within ∙ none))
+      refl e.0 e.2 (subst (λ (d : At B H). BeginsAs d new now None g) e.0 begins)
+  took_keeps V (at.Writing true) b before ring held left n old new g e begins is few off within =
+      all_keeps (at.Writing true) b before ring held left n new g is (sym off) (fed_unanswering b e.0 new held left e.2) begins
+  took_keeps V (at.Writing false) b before ring held left n old new g e begins is few off within =
+      all_keeps (at.Writing false) b before ring held left n new g is (sym off) (placed b (at.Over why.Closed) e.0 (λ x. cc)) begins
+  took_keeps V (at.Handing h) b before ring held left n old new g e begins is few off within =
+      all_keeps (at.Handing h) b before ring held left n new g is (sym off) (told_unanswering V h held ring left b e) begins
+  took_keeps V at.Refusing b before ring held left n old new g e begins is few off within =
+      all_keeps at.Refusing b before ring held left n new g is (sym off) (placed b (at.Over (ended_by m.late)) e.0 (λ x. cc)) begins
+  took_keeps V (at.Taken h) b before ring held left n old new g e begins is few off within = absurd is
+  took_keeps V (at.Speaking h) b before ring held left n old new g e begins is few off within =
+      all_keeps (at.Speaking h) b before ring held left n new g is (sym off) (placed b (at.Taken h) e.0 (λ x. cc)) begins
+  took_keeps V at.Parting b before ring held left n old new g e begins is few off within =
+      all_keeps at.Parting b before ring held left n new g is (sym off) (placed b (at.Over why.Hijacked) e.0 (λ x. cc)) begins
+  took_keeps V (at.Over w) b before ring held left n old new g e begins is few off within = absurd is
+
+  -- a request was run
+  pub run_keeps : (V : Voice H) (a x b : At B H) (ask : Ask) (ps : Pairs) (answer : Answer Content H) (end : Bool) (held before ring left : List ℕ) (count : ℕ)
+      → BeginsAt ask ps answer end x → HandsOn V x held before b ring left → before ≡ []
+      → Keeps now Run (shown_at a before held peer local lives calls taken m t)
+      (shown_at b ring left peer local lives count taken (ending_run m held calls) (filled_then now ring t))
+  run_keeps V a x b ask ps answer end held before ring left count begins hands none = record {
+    ending = refl;
+    last = refl;
+    opened = refl;
+    took = refl;
+    filled = λ live. ap (λ (xs : List ℕ). filled_if (not (no_bytes xs)) now t.filled) (sym (ring_at_live b ring live));
+    begun = refl;
+    ring = run_ring V x b ask ps answer end held before ring left begins hands none
+        (shown_at a before held peer local lives calls taken m t)
+        (shown_at b ring left peer local lives count taken (ending_run m held calls) (filled_then now ring t)) refl;
+  }
+
+  -- memory was refused before it
+  pub want_keeps : (a : At B H) (w : Why) (before ring held left : List ℕ)
+      → Keeps now Want (shown_at a before held peer local lives calls taken m t)
+      (shown_at {B = B} {H = H} (at.Over w) ring left peer local lives calls taken m t)
+  want_keeps a w before ring held left = record {
+    ending = refl;
+    last = refl;
+    opened = refl;
+    took = refl;
+    filled = λ live. absurd (live refl);
+    begun = refl;
+    ring = refl;
+  }
+
+  -- a refusal was named
+  pub refusal_keeps : (a : At B H) (fault : Fault) (before ring held : List ℕ)
+      → Keeps now (Refusal fault) (shown_at a before held peer local lives calls taken m t)
+      (shown_at {B = B} {H = H} at.Refusing ring held peer local lives calls taken m (record t { filled = now }))
+  refusal_keeps a fault before ring held =
+      record { ending = refl; last = refl; opened = refl; took = refl; filled = λ live. refl; begun = refl; ring = refl }
+
+  -- bytes came, and were fed
+  pub fed_keeps : (a b : At B H) (ring held left piece : List ℕ) (n count : ℕ) (old new : Intake) (g : Option ℕ) → FeedsHeld old piece new left b
+      → BeginsAs b new now t.begun g → ring ≡ []
+      → Keeps now (Read (read.Bytes n)) (shown_at a ring held peer local lives calls taken m t)
+      (shown_at b ring left peer local lives calls count m (record t { begun = g }))
+  fed_keeps a b ring held left piece n count old new g f begins none = record {
+    ending = refl;
+    last = refl;
+    opened = refl;
+    took = refl;
+    filled = λ live. ap (λ (xs : List ℕ). filled_if (not (no_bytes xs)) now t.filled) (sym (ring_at_live b ring live ∙ none));
+    begun = begun_from b new now t.begun g begins;
+    ring = ring_whole b ring (Read (read.Bytes n)) (shown_at a ring held peer local lives calls taken m t)
+        (shown_at b ring left peer local lives calls count m (record t { begun = g })) (fed_unanswering b old new piece left f) refl;
+  }
+
+  -- bytes came, and a hijacker was told them
+  pub heard_keeps : (V : Voice H) (a b : At B H) (before ring held left piece : List ℕ) (n count : ℕ) → IsHearing a → HandsOn V a piece before b ring left
+      → Keeps now (Read (read.Bytes n)) (shown_at a before held peer local lives calls taken m t)
+      (shown_at b ring left peer local lives calls count m (filled_then now ring t))
+  heard_keeps V a b before ring held left piece n count is hands = record {
+    ending = refl;
+    last = refl;
+    opened = refl;
+    took = refl;
+    filled = λ live. ap (λ (xs : List ℕ). filled_if (not (no_bytes xs)) now t.filled) (sym (ring_at_live b ring live));
+    begun = begun_told b now t.begun (heard_state V a b piece before ring left is hands);
+    ring = ring_whole b ring (Read (read.Bytes n)) (shown_at a before held peer local lives calls taken m t)
+        (shown_at b ring left peer local lives calls count m (filled_then now ring t)) (told_state b (heard_state V a b piece before ring left is hands)) refl;
+  }
+
+  -- the peer's end was told to it
+  pub ended_keeps : (V : Voice H) (a b : At B H) (before ring held left : List ℕ) → IsHearing a → EndsOn V a b ring
+      → Keeps now (Read read.End) (shown_at a before held peer local lives calls taken m t)
+      (shown_at b ring left peer local lives calls taken m (filled_then now ring t))
+  ended_keeps V a b before ring held left is ends = record {
+    ending = refl;
+    last = refl;
+    opened = refl;
+    took = refl;
+    filled = λ live. ap (λ (xs : List ℕ). filled_if (not (no_bytes xs)) now t.filled) (sym (ring_at_live b ring live));
+    begun = refl;
+    ring = ring_whole b ring (Read read.End) (shown_at a before held peer local lives calls taken m t)
+        (shown_at b ring left peer local lives calls taken m (filled_then now ring t)) (told_state b (end_state V a b ring is ends)) refl;
+  }
+
+  -- nothing came
+  pub nothing_keeps : (a : At B H) (ring held left : List ℕ) → ring ≡ [] → state_at a ≢ state.Answering
+      → Keeps now (Read read.NotYet) (shown_at a ring held peer local lives calls taken m t) (shown_at a ring left peer local lives calls taken m t)
+  nothing_keeps a ring held left none unsaid = record {
+    ending = refl;
+    last = refl;
+    opened = refl;
+    took = refl;
+    filled = λ live. ap (λ (xs : List ℕ). filled_if (not (no_bytes xs)) now t.filled) (sym (ring_at_live a ring live ∙ none));
+    begun = refl;
+    ring = ring_whole a ring (Read read.NotYet) (shown_at a ring held peer local lives calls taken m t)
+        (shown_at a ring left peer local lives calls taken m t) unsaid refl;
+  }
+
+  -- the connection ended by a read
+  pub end_keeps : (a : At B H) (w : Why) (answer : LinkRead) (before ring held left : List ℕ) → (answer ≡ read.End) ⊎ (answer ≡ read.Failed)
+      → Keeps now (Read answer) (shown_at a before held peer local lives calls taken m t)
+      (shown_at {B = B} {H = H} (at.Over w) ring left peer local lives calls taken m t)
+  end_keeps a w (read.Bytes n) before ring held left e = elim e [ inl x ↦ cc | inr x ↦ cc ]
+  end_keeps a w read.NotYet before ring held left e =
+      record { ending = refl; last = refl; opened = refl; took = refl; filled = λ live. absurd (live refl); begun = refl; ring = refl }
+  end_keeps a w read.End before ring held left e =
+      record { ending = refl; last = refl; opened = refl; took = refl; filled = λ live. absurd (live refl); begun = refl; ring = refl }
+  end_keeps a w read.Failed before ring held left e =
+      record { ending = refl; last = refl; opened = refl; took = refl; filled = λ live. absurd (live refl); begun = refl; ring = refl }
+
+-- a fill before a write changes nothing of what the write does to them
+says_same : (a : LinkWrite) (old mid new : Shown) → mid.owed ≡ old.owed → says_behind a mid new ≡ says_behind a old new
+says_same (write.Took n) old mid new e = ap (λ (xs : List ℕ). no_bytes (drop n xs) && not (no_bytes new.ring)) e
+says_same write.NotYet old mid new e = refl
+says_same write.Failed old mid new e = refl
+says_same write.NoMemory old mid new e = refl
+
+filled_twice : (x y : Bool) (now k : ℕ) → filled_if y now (filled_if x now k) ≡ filled_if (x || y) now k
+filled_twice true true now k = refl
+filled_twice true false now k = refl
+filled_twice false y now k = refl
+
+ring_same : (x : State) (a : LinkWrite) (old mid new : Shown) → mid.owed ≡ old.owed → ring_by x (Write a) mid new ≡ ring_by x (Write a) old new
+ring_same state.Reading a old mid new e = refl
+ring_same state.Ready a old mid new e = refl
+ring_same state.Answering a old mid new e = ap (λ (xs : List ℕ). still_in a (take ring_room xs)) e
+ring_same state.Hijacked a old mid new e = refl
+ring_same state.Over a old mid new e = refl
+
+pub keeps_behind : (now : ℕ) (a : LinkWrite) (old mid new : Shown) → Fills now old mid → no_bytes mid.ring ≡ false → Keeps now (Write a) mid new
+    → Keeps now (Write a) old new
+keeps_behind now a old mid new f some h = record {
+  ending = h.ending ∙ f.ending;
+  last = h.last ∙ ap (λ (t : Moments). t.last) f.moments;
+  opened = h.opened ∙ ap (λ (t : Moments). t.opened) f.moments;
+  took = h.took ∙ ap (λ (t : Moments). took_by now (Write a) t.took) f.moments;
+  filled = λ live. h.filled live
+      ∙ ap (λ (b : Bool). filled_if (b || says_behind a mid new) now mid.moments.filled) some
+      ∙ ap (λ (b : Bool). filled_if b now mid.moments.filled) (says_same a old mid new f.owed)
+      ∙ ap (λ (t : Moments). filled_if (says_behind a old new) now t.filled) f.moments
+      ∙ filled_twice (no_bytes old.ring) (says_behind a old new) now old.moments.filled;
+  begun = subst (λ (t : Moments). BegunBy now (Write a) new.state t.begun new.moments.begun) f.moments h.begun;
+  ring = h.ring ∙ ring_same new.state a old mid new f.owed;
+}
+
+pub some_ring : {B H : Type 0} (a : At B H) (ring : List ℕ) → IsFilledAt a ring → no_bytes (ring_at a ring) ≡ false
+some_ring {B} {H} a ring is = ap no_bytes (ring_at_filled a ring is) ∙ none_some ring (filled_ring a ring is)

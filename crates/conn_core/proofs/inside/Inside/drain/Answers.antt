@@ -1,0 +1,29 @@
+use Rattle.std.proofs.Common.{◌≡◌, ◌≤◌, ℕ, refl, sym, ap, subst, ◌∙◌}
+use Rattle.talk_core.specs.declared.ended.IdleBy.TheVariants.{Drain}
+use Rattle.talk_core.specs.declared.ended.Why.TheVariants as why
+use Rattle.talk_core.specs.Tail.{Voice}
+use Rattle.conn_core.specs.declared.place.At.{At}
+use Rattle.conn_core.specs.declared.place.At.TheVariants as at
+use Rattle.conn_core.specs.Holds.{kept}
+use Rattle.conn_core.specs.Place.{left_at}
+use Rattle.conn_core.proofs.MoveLemmas.{reading_place}
+use Rattle.conn_core.proofs.OwnerLemmas.{drain_holds, left_holds}
+use Rattle.conn_core.proofs.PlaceLemmas.{stands_place}
+use Rattle.conn_core.proofs.inside.Inside.drain.Goals as goal
+
+pub returns-in-None-clause-holds : goal.returns-in-None-clause-holds
+returns-in-None-clause-holds g c = λ T s h.
+    let V : Voice g.row.H.Denot = record { says = g.H.Hijack.says; ends = g.H.Hijack.ends } in
+    let p = c.args.self.now in
+    stands_place (at.Over (why.Idle (Drain c.args.level))) c.put.new.at V T s p.peer _ (sym c.put.ensures)
+    (drain_holds V T s p _ c.args.level (reading_place p.at (sym c.state_at.ensures ∙ c.in-Reading.is))
+    c.in-None.is c.requires.level.0 c.requires.read refl refl refl h)
+
+pub returns-in-Hijacked-clause-holds : goal.returns-in-Hijacked-clause-holds
+returns-in-Hijacked-clause-holds g c = λ T s h.
+    let V : Voice g.row.H.Denot = record { says = g.H.Hijack.says; ends = g.H.Hijack.ends } in
+    let p = c.args.self.now in
+    let is : c.put-in-Hijacked.new.at ≡ left_at p.at =
+    c.put-in-Hijacked.ensures ∙ c.let_leave-at.ensures ∙ ap (λ (a : At g.row.B.Denot g.row.H.Denot). left_at a) c.replace.ensures.value in
+    let told = subst (λ (n : ℕ). 1 ≤ n) (sym c.requires.level.1) c.requires.level.0 in
+    stands_place (left_at p.at) c.put-in-Hijacked.new.at V T s p.peer _ (sym is) (left_holds V T s p.peer p.at (kept p) told p.rests h)

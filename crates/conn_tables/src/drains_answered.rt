@@ -1,0 +1,306 @@
+// What the telling of a drain leaves, from the run of a request on.
+use crate::apps::App;
+use crate::rows::{Row, wrong_at};
+use crate::steps::Step::{Drain, Feed, Flush, Gives, Is, Owes, Takes, Turn};
+use crate::texts::{
+    CLOSED, GET, KEPT, LAST, ONE_AND_HALF, ONE_AND_LINE, POST, POST_CLOSED, POST_KEPT, REFUSAL,
+    REFUSED, REST, TWO,
+};
+use conn_core::{IdleBy, Next, State, Told, Why};
+
+// Its reply is under way, or was sent.
+const ANSWERING: &[Row] = &[
+    Row {
+        name: "its reply keeps the connection, which is told again",
+        app: App::Echoes,
+        steps: &[
+            Takes(0),
+            Gives(GET),
+            Feed(200, Next::Ready),
+            Turn(300, Next::Waiting),
+            Drain(1, Told::Write),
+            Is(State::Answering),
+            Owes(true),
+            Takes(1_000),
+            Flush(400, Next::More),
+            Is(State::Reading),
+            Drain(1, Told::Over),
+        ],
+        sent: &[KEPT],
+        why: Why::Idle(IdleBy::Drain { level: 1 }),
+        told: 1,
+        closing: None,
+    },
+    Row {
+        name: "in the middle of the reply",
+        app: App::Echoes,
+        steps: &[
+            Takes(7),
+            Gives(GET),
+            Feed(200, Next::Ready),
+            Turn(300, Next::Waiting),
+            Drain(1, Told::Write),
+            Drain(2, Told::Write),
+            Takes(1_000),
+            Flush(400, Next::More),
+            Is(State::Reading),
+            Drain(2, Told::Over),
+        ],
+        sent: &[KEPT],
+        why: Why::Idle(IdleBy::Drain { level: 2 }),
+        told: 2,
+        closing: None,
+    },
+    Row {
+        name: "the reply to the next request closes",
+        app: App::Echoes,
+        steps: &[
+            Takes(0),
+            Gives(GET),
+            Feed(200, Next::Ready),
+            Turn(300, Next::Waiting),
+            Drain(1, Told::Write),
+            Takes(1_000),
+            Flush(400, Next::More),
+            Gives(POST),
+            Feed(500, Next::Ready),
+            Turn(600, Next::Over),
+        ],
+        sent: &[KEPT, POST_CLOSED],
+        why: Why::Closed,
+        told: 1,
+        closing: Some(1),
+    },
+    Row {
+        name: "its reply closes anyway",
+        app: App::Echoes,
+        steps: &[
+            Takes(0),
+            Gives(LAST),
+            Feed(200, Next::Ready),
+            Turn(300, Next::Waiting),
+            Drain(1, Told::Write),
+            Takes(1_000),
+            Flush(400, Next::Over),
+        ],
+        sent: &[CLOSED],
+        why: Why::Closed,
+        told: 1,
+        closing: None,
+    },
+    Row {
+        name: "a refusal is named",
+        app: App::Echoes,
+        steps: &[
+            Takes(0),
+            Gives(REFUSED),
+            Feed(200, Next::Ready),
+            Turn(300, Next::Waiting),
+            Drain(1, Told::Write),
+            Takes(1_000),
+            Flush(400, Next::Over),
+        ],
+        sent: &[REFUSAL],
+        why: Why::Closed,
+        told: 1,
+        closing: None,
+    },
+    Row {
+        name: "behind the last byte",
+        app: App::Echoes,
+        steps: &[
+            Gives(GET),
+            Feed(200, Next::Ready),
+            Turn(300, Next::More),
+            Is(State::Reading),
+            Drain(1, Told::Over),
+            Is(State::Over),
+        ],
+        sent: &[KEPT],
+        why: Why::Idle(IdleBy::Drain { level: 1 }),
+        told: 1,
+        closing: None,
+    },
+    Row {
+        name: "behind two requests, at the second level",
+        app: App::Echoes,
+        steps: &[
+            Gives(TWO),
+            Feed(200, Next::Ready),
+            Turn(300, Next::More),
+            Drain(2, Told::Over),
+        ],
+        sent: &[KEPT, POST_KEPT],
+        why: Why::Idle(IdleBy::Drain { level: 2 }),
+        told: 2,
+        closing: None,
+    },
+    Row {
+        name: "it is over already",
+        app: App::Echoes,
+        steps: &[
+            Gives(LAST),
+            Feed(200, Next::Ready),
+            Turn(300, Next::Over),
+            Drain(1, Told::Over),
+        ],
+        sent: &[CLOSED],
+        why: Why::Closed,
+        told: 1,
+        closing: None,
+    },
+];
+// Two requests, or one with bytes behind it.
+const PAIR: &[Row] = &[
+    Row {
+        name: "told before both",
+        app: App::Echoes,
+        steps: &[
+            Drain(1, Told::Unread),
+            Gives(TWO),
+            Feed(200, Next::Ready),
+            Turn(300, Next::Over),
+        ],
+        sent: &[KEPT, POST_CLOSED],
+        why: Why::Closed,
+        told: 1,
+        closing: Some(1),
+    },
+    Row {
+        name: "told where both stand",
+        app: App::Echoes,
+        steps: &[
+            Gives(TWO),
+            Feed(200, Next::Ready),
+            Drain(1, Told::Stays),
+            Turn(300, Next::Over),
+        ],
+        sent: &[KEPT, POST_CLOSED],
+        why: Why::Closed,
+        told: 1,
+        closing: Some(1),
+    },
+    Row {
+        name: "told between them",
+        app: App::Echoes,
+        steps: &[
+            Takes(0),
+            Gives(TWO),
+            Feed(200, Next::Ready),
+            Turn(300, Next::Waiting),
+            Drain(1, Told::Write),
+            Takes(1_000),
+            Flush(400, Next::Ready),
+            Is(State::Ready),
+            Turn(500, Next::Over),
+        ],
+        sent: &[KEPT, POST_CLOSED],
+        why: Why::Closed,
+        told: 1,
+        closing: Some(1),
+    },
+    Row {
+        name: "told where the second waits",
+        app: App::Echoes,
+        steps: &[
+            Takes(0),
+            Gives(TWO),
+            Feed(200, Next::Ready),
+            Turn(300, Next::Waiting),
+            Takes(1_000),
+            Flush(400, Next::Ready),
+            Drain(1, Told::Stays),
+            Turn(500, Next::Over),
+        ],
+        sent: &[KEPT, POST_CLOSED],
+        why: Why::Closed,
+        told: 1,
+        closing: Some(1),
+    },
+    Row {
+        name: "told behind the second's run",
+        app: App::Echoes,
+        steps: &[
+            Takes(38),
+            Gives(TWO),
+            Feed(200, Next::Ready),
+            Turn(300, Next::More),
+            Is(State::Answering),
+            Drain(1, Told::Write),
+            Takes(1_000),
+            Flush(400, Next::More),
+            Is(State::Reading),
+            Drain(1, Told::Over),
+        ],
+        sent: &[KEPT, POST_KEPT],
+        why: Why::Idle(IdleBy::Drain { level: 1 }),
+        told: 1,
+        closing: None,
+    },
+    Row {
+        name: "told where half of the second is held",
+        app: App::Echoes,
+        steps: &[
+            Gives(ONE_AND_HALF),
+            Feed(200, Next::Ready),
+            Drain(1, Told::Stays),
+            Turn(300, Next::More),
+            Is(State::Reading),
+            Drain(1, Told::Stays),
+            Gives(REST),
+            Feed(400, Next::Ready),
+            Turn(500, Next::Over),
+        ],
+        sent: &[KEPT, CLOSED],
+        why: Why::Closed,
+        told: 1,
+        closing: Some(1),
+    },
+    Row {
+        name: "an empty line is held, and the reply does not close",
+        app: App::Echoes,
+        steps: &[
+            Gives(ONE_AND_LINE),
+            Feed(200, Next::Ready),
+            Drain(1, Told::Stays),
+            Turn(300, Next::More),
+            Is(State::Reading),
+            Drain(1, Told::Over),
+        ],
+        sent: &[KEPT],
+        why: Why::Idle(IdleBy::Drain { level: 1 }),
+        told: 1,
+        closing: None,
+    },
+    Row {
+        name: "nor is it told again, and the reply to the next closes",
+        app: App::Echoes,
+        steps: &[
+            Gives(ONE_AND_LINE),
+            Feed(200, Next::Ready),
+            Drain(1, Told::Stays),
+            Turn(300, Next::More),
+            Gives(POST),
+            Feed(400, Next::Ready),
+            Turn(500, Next::Over),
+        ],
+        sent: &[KEPT, POST_CLOSED],
+        why: Why::Closed,
+        told: 1,
+        closing: Some(1),
+    },
+];
+
+#[test]
+fn drains_the_answered(rt: HostRuntime) {
+    for row in ANSWERING {
+        assert_eq!(rt; wrong_at(rt.alloc(), row), None, "{}", row.name);
+    }
+}
+
+#[test]
+fn drains_pairs(rt: HostRuntime) {
+    for row in PAIR {
+        assert_eq!(rt; wrong_at(rt.alloc(), row), None, "{}", row.name);
+    }
+}

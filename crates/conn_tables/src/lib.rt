@@ -1,0 +1,32 @@
+//! What a connection does at each moment of its life, as tables over links in memory: when each limit of time passes,
+//! and what draining, halting and placing leave of it. It has tests alone.
+#![tactic(auto)]
+
+#[cfg(test)]
+mod apps;
+#[cfg(test)]
+mod drains;
+#[cfg(test)]
+mod drains_answered;
+#[cfg(test)]
+mod drains_hijacked;
+#[cfg(test)]
+mod halts;
+#[cfg(test)]
+mod idle;
+#[cfg(test)]
+mod late;
+#[cfg(test)]
+mod moments;
+#[cfg(test)]
+mod peers;
+#[cfg(test)]
+mod places;
+#[cfg(test)]
+mod rows;
+#[cfg(test)]
+mod stalled;
+#[cfg(test)]
+mod steps;
+#[cfg(test)]
+mod texts;
