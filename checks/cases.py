@@ -42,7 +42,7 @@ GROUPS = (
     connections.check_kept, connections.check_pipelined, connections.check_ends, connections.check_waiting_writers,
     endpoints.check_rows, endpoints.check_endpoints, endpoints.check_broken, endpoints.check_statuses,
     endpoints.check_long, endpoints.check_environments,
-    hijacks.check_rows, hijacks.check_pipelined, hijacks.check_long, hijacks.check_reads,
+    hijacks.check_rows, hijacks.check_pipelined, hijacks.check_long, hijacks.check_reads, hijacks.check_failures,
 )
 
 

@@ -4,10 +4,10 @@ import random
 
 from connections import converse
 from model import once
-from program import DIRECTLY, Cut, Reset, write
-from streams import packets
-from wanted import (CLOSE, CLOSING, CODED, GET, HEAD, LENGTH, NOTHING, OK, OLD, OLD_KEPT, READ_FAILED, READ_LIMIT, E,
-                    broken, linted, post, refusal, reply, served)
+from program import DIRECTLY, Cut, Ready, Reset, write
+from streams import into_file, packets
+from wanted import (CLOSE, CLOSING, CODED, GET, HEAD, LENGTH, NOTHING, OK, OLD, OLD_KEPT, READ_FAILED, READ_LIMIT,
+                    WRITE_FAILED, E, broken, linted, post, refusal, reply, served)
 
 FORMS = [("GET", GET), ("HEAD", HEAD), ("GET that closes", CLOSING), ("HTTP/1.0", OLD), ("HTTP/1.0, kept alive", OLD_KEPT)]
 TAKE = GET.replace(b"/", b"/take", 1)
@@ -152,6 +152,7 @@ def check_reads(checks):
         ("a piece", "upper.stack", [b"AB"], [GET, b"ab"]),
         ("bytes behind the request", "upper.stack", [b"AB"], [GET + b"ab"]),
         ("bytes behind the request, and a piece", "upper.stack", [b"AB", b"C"], [GET + b"ab", b"c"]),
+        ("a byte behind the request, and another", "upper.stack", [b"A", b"B"], [GET + b"a", b"b"]),
         ("three pieces", "upper.stack", [b"A", b"B", b"C"], [GET, b"a", b"b", b"c"]),
         ("nothing", "upper.stack", [], [GET]),
         ("a head, and bytes behind it", "part.stack", [OK + E, b"AB"], [GET + b"ab"]),
@@ -185,3 +186,19 @@ def check_reads(checks):
         want = [first + b"AB", b"C" * 1000, b"D", b"E" * 7]
         asked = [GET + b"ab", b"c" * 1000, b"d", b"e" * 7]
         checks.counts(f"a writer that waits for what is said, {stack}", (want, True, (0, b"", b"")), converse(stack, asked, want, 2000))
+
+
+def check_failures(checks):
+    """Letters that come and go one by one, where each read and each write fails in turn."""
+    checks.begin("hijackers whose reads and writes fail", DIRECTLY)
+    write("upper.stack", b"run take upper\n")
+    text = bytes(range(ord("a"), ord("z") + 1)) + b"abcdefghijklm"
+    pieces = [GET, *Cut.every(text, 1).pieces]
+    for place in range(1, len(pieces) + 1):
+        said = text[:max(place - 2, 0)].upper()
+        checks.wants(f"read {place}", (READ_FAILED[0], said, READ_FAILED[2]), "once", "upper.stack",
+                     stdin=Ready(*pieces[:place - 1]))
+    for place in range(1, len(text) + 1):
+        said = text[:place - 1].upper()
+        checks.answers(f"write {place}", (WRITE_FAILED[0], said, WRITE_FAILED[2]),
+                       into_file(len(said), "once", "upper.stack", stdin=Cut(pieces)))

@@ -4,7 +4,7 @@ import glob
 import os
 
 from model import check, once
-from program import DIRECTLY, PUMA, TOP, write
+from program import DIRECTLY, PUMA, TOP, Cut, write
 from wanted import E, GET, HEAD, NOT_FOUND, OK, PLAIN, broken, post, reply, served
 
 # The stacks that teach, each with its written form beside it.
@@ -116,6 +116,11 @@ def check_rows(checks):
     plain = b"HTTP/1.1 200 OK\r\ncontent-type: text/plain\r\n"
     place = b"map /foo\nrun text 200 text/plain foo\nend\n"
     places = b"map /a\nmap /b\nrun text 200 text/plain b\nend\nend\nrun text 200 text/plain out\n"
+    chunked = (b"use content_length\nmap /a\n  run text 200 text/plain in\\s/a\nend\n"
+               b"run pieces 200 hello \\sthere\n")
+    two = GET + ask(b"/a/b")
+    answers = (plain + b"transfer-encoding: chunked\r\n\r\n5\r\nhello\r\n6\r\n there\r\n0\r\n\r\n"
+               + plain + b"content-length: 5\r\n\r\nin /a")
     for name, file, text, want in [
         ("HEAD", hello, HEAD, plain + b"\r\n"),
         ("HEAD behind lint", b"use lint\n" + hello, HEAD,
@@ -139,9 +144,12 @@ def check_rows(checks):
          + b"rack.methodoverride.original_method=POST\n"),
         ("a cascade", b"cascade\nrun text 404 text/plain a\nrun text 405 text/plain b\nend\n", GET,
          b"HTTP/1.1 405 Method Not Allowed\r\ncontent-type: text/plain\r\ncontent-length: 1\r\n\r\nb"),
+        ("a default in chunks, and a place behind it", chunked, two, answers),
     ]:
         checks.wants(name, (0, want, b""), "once", write("stack", file), stdin=text)
         checks.counts(name + ", by the rules", (0, want, b""), once(file, text))
+    checks.wants("these two in three pieces", (0, answers, b""), "once", write("stack", chunked),
+                 stdin=Cut([two[:7], two[7:32], two[32:]]))
     for name, file, want in [
         ("a written form", b"map /a/\nrun echo\nend\n\n# c\nrun text 200 text/plain x\n",
          (0, b"map /a\n  run echo\nend\nrun text 200 text/plain x\n", b"")),

@@ -34,10 +34,10 @@ class Reset:
 
 
 class Ready:
-    """Input of which this text is there, and where a read that would wait fails."""
+    """Input of which these pieces are there, each of them one read, and where a read that would wait fails."""
 
-    def __init__(self, text):
-        self.text = text
+    def __init__(self, *pieces):
+        self.pieces = pieces
 
 
 def feed(end, cut):
@@ -62,13 +62,17 @@ def ends_of(stdin):
     if isinstance(stdin, Cut):
         far, near = socket.socketpair(socket.AF_UNIX, socket.SOCK_SEQPACKET)
         return near, far
-    far, near = socket.socketpair(socket.AF_UNIX, socket.SOCK_STREAM)
     if isinstance(stdin, Reset):
+        far, near = socket.socketpair(socket.AF_UNIX, socket.SOCK_STREAM)
         near.send(b"never read")
         far.send(stdin.text)
         far.close()
         return near, None
-    far.send(stdin.text)
+    # One piece needs nothing that keeps pieces apart.
+    kind = socket.SOCK_SEQPACKET if len(stdin.pieces) > 1 else socket.SOCK_STREAM
+    far, near = socket.socketpair(socket.AF_UNIX, kind)
+    for piece in stdin.pieces:
+        far.send(piece)
     near.setblocking(False)
     return near, far
 

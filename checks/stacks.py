@@ -248,6 +248,8 @@ WRITTEN = [
     ("spaces throughout", b"   use   head  \n run  text    200 a   b   \n", b"use head\nrun text 200 a b\n"),
     ("no last LF", b"run echo", b"run echo\n"), ("no last LF, and spaces", b"run echo  ", b"run echo\n"),
     ("comments and empty lines", b"# a\n\n  #b\nrun echo\n   \n# c", b"run echo\n"),
+    ("an empty cascade behind these", b"use  content_type\n\n# none\ncascade\nend",
+     b"use content_type text/html\ncascade\nend\n"),
     ("spaces that are many in front", b" " * 60000 + b"run echo\n", b"run echo\n"),
     ("spaces alone, more than a line may have", b"run echo\n" + b" " * 5000 + b"\n", b"run echo\n"),
     ("the longest line", LONGEST + b"\n", None), ("the longest line without its LF", LONGEST, LONGEST + b"\n"),

@@ -122,11 +122,16 @@ def check_check(checks):
     text = b"run stream " + b"x" * 4000 + b"\n"
     write("large.stack", text * 16)
     checks.wants("check of a large file", (0, text * 16, b""), "check", "large.stack")
+    checks.answers("check into a file that may have 5,000 bytes", (7, (text * 16)[:5000], WRITE_FAILED[2]),
+                   into_file(5000, "check", "large.stack"))
+
+
+def into_file(size, *words, **how):
+    """Status, output and errors of the program, where its output is a file that may have so many bytes."""
     with open("taken", "w+b") as taken:
-        status, _, errors = run(["check", "large.stack"], stdout=taken, preexec_fn=lambda: limit_files(5000)) or (None, b"", b"")
+        status, _, errors = run(words, stdout=taken, preexec_fn=lambda: limit_files(size), **how) or (None, b"", b"")
         taken.seek(0)
-        checks.answers("check into a file that may have 5,000 bytes", (7, (text * 16)[:5000], WRITE_FAILED[2]),
-                       (status, taken.read(), errors))
+        return status, taken.read(), errors
 
 
 def limit_files(size):

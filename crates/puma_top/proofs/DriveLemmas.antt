@@ -8,6 +8,8 @@ use Rattle.reply_framing.specs.declared.types.After.TheVariants.{Keep, Close, Hi
 use Rattle.talk_core.specs.declared.ended.Life.{Life}
 use Rattle.talk_core.specs.Teller.{Stack, Stacks, last_phase}
 use Rattle.conn_core.specs.Calls.{RestsBehind, Feeds, Turns, Flushes}
+use Rattle.conn_core.specs.Keeps.{reaching}
+use Rattle.conn_core.specs.Opened.{untold}
 use Rattle.conn_core.specs.Shown.{Shown, Moved}
 use Rattle.conn_core.specs.declared.state.Next.{Next}
 use Rattle.conn_core.specs.declared.state.Next.TheVariants as next
@@ -16,7 +18,7 @@ use Rattle.conn_core.specs.declared.state.State.TheVariants as state
 use Rattle.conn_core.proofs.CallerLemmas.{moved_none, moved_then, taken_by}
 use Rattle.puma_top.specs.Drive.{EndsSo, Drives, left_of, left_to, still_left, owing, still_owing, saying, still_saying, IsSaid}
 use Rattle.puma_top.specs.Once.{most_taken}
-use Rattle.puma_top.proofs.EndsLemmas.{ends_on}
+use Rattle.puma_top.proofs.EndsLemmas.{ends_on, feed_ends, turn_ends, flush_ends, still_untold}
 use Rattle.puma_top.proofs.HeardLemmas.{heard_end, heard_state}
 
 -- at the start
@@ -25,17 +27,68 @@ driven_none o s none = record {
   reads = 0;
   writes = 0;
   moved = moved_none o s;
+  ending = refl;
   ends = subst (λ w. EndsSo w s s) (sym none) tt;
 }
 
--- one step more
-pub driven : (o m n : Shown) (s t u : Seen) (x y : ℕ) → Drives o m s t → Moved m n t u x y → EndsSo n.why t u → Drives o n s u
-driven o m n s t u x y d moved ends = record {
-  reads = d.reads + x;
-  writes = d.writes + y;
-  moved = moved_then o m n s t u d.reads d.writes x y (d.reads + x) (d.writes + y) refl refl d.moved moved;
-  ends = ends_on n.why s t u d.moved.failed_reads d.moved.failed_writes ends;
+-- some steps more
+pub driven : (o m n : Shown) (s t u : Seen) → Drives o m s t → Drives m n t u → Drives o n s u
+driven o m n s t u d e = record {
+  reads = d.reads + e.reads;
+  writes = d.writes + e.writes;
+  moved = moved_then o m n s t u d.reads d.writes e.reads e.writes (d.reads + e.reads) (d.writes + e.writes) refl refl d.moved e.moved;
+  ending = e.ending ∙ d.ending;
+  ends = ends_on n.why s t u d.moved.failed_reads d.moved.failed_writes e.ends;
 }
+
+-- the moment that a call is handed changes nothing else
+reached : (now : ℕ) (o n : Shown) (s u : Seen) (x y : ℕ) → Moved (reaching now o) n s u x y → Moved o n s u x y
+reached now o n s u x y h = record {
+  peer = h.peer;
+  local = h.local;
+  lives = h.lives;
+  tag = h.tag;
+  link_peer = h.link_peer;
+  borrows = h.borrows;
+  input = h.input;
+  waits = h.waits;
+  failed_reads = h.failed_reads;
+  failed_writes = h.failed_writes;
+  reads_are = h.reads_are;
+  writes_are = h.writes_are;
+  came = h.came;
+  given = h.given;
+  taken = h.taken;
+}
+
+-- each call is such a step
+pub feed_driven : (now : ℕ) (a : Next) (o m n : Shown) (s t u : Seen) → m.why ≡ None → Drives o m s t → Feeds now a (reaching now m) n t u → Drives o n s u
+feed_driven now a o m n s t u none d h = driven o m n s t u d (record {
+  reads = 1;
+  writes = 0;
+  moved = reached now m n t u 1 0 h.moved;
+  ending = h.keeps.ending;
+  ends = feed_ends now a (reaching now m) n t u none h;
+})
+
+pub turn_driven : (now : ℕ) (a : Next) (o m n : Shown) (s t u : Seen) → o.ending ≡ untold → Drives o m s t → Turns now a (reaching now m) n t u → Drives o n s u
+turn_driven now a o m n s t u is d h = driven o m n s t u d (record {
+  reads = h.reads;
+  writes = h.writes;
+  moved = reached now m n t u h.reads h.writes h.moved;
+  ending = still_untold (reaching now m) n (d.ending ∙ is) h.drains;
+  ends = turn_ends n.why t u h.ends;
+})
+
+pub flush_driven : (now : ℕ) (a : Next) (o m n : Shown) (s t u : Seen) → o.ending ≡ untold → Drives o m s t → Flushes now a (reaching now m) n t u
+    → Drives o n s u
+flush_driven now a o m n s t u is d h = driven o m n s t u d (record {
+  reads = 0;
+  writes = h.writes;
+  moved = reached now m n t u 0 h.writes h.moved;
+  ending = still_untold (reaching now m) n (d.ending ∙ is) h.drains;
+  ends = flush_ends m.ending n.why t u (d.ending ∙ is) h.ends;
+})
 
 -- nothing waits where no wait is counted
 calm : (x y : ℕ) → x ≡ 0 → y ≡ 0 → Rose x y → ⊥
@@ -85,10 +138,10 @@ left_more (b ∷ bs) Close some other = absurd (other refl)
 left_more (b ∷ bs) Hijack some other = refl
 
 -- each step leaves less. This is a read for the reader of requests
-pub feed_less : (a : Next) (o n : Shown) (s u : Seen) → o.state ≡ state.Reading → o.taken < most_taken → s.waits ≡ 0 → u.waits ≡ 0
-    → Feeds a o n s u → still_left n < still_left o
-feed_less next.Waiting o n s u is few e f h = absurd (calm s.waits u.waits e f h.tells.3)
-feed_less next.More o n s u is few e f h =
+pub feed_less : (now : ℕ) (a : Next) (o n : Shown) (s u : Seen) → o.state ≡ state.Reading → o.taken < most_taken → s.waits ≡ 0 → u.waits ≡ 0
+    → Feeds now a o n s u → still_left n < still_left o
+feed_less now next.Waiting o n s u is few e f h = absurd (calm s.waits u.waits e f h.tells.3)
+feed_less now next.More o n s u is few e f h =
     let same : n.state ≡ state.Reading = h.tells.0 ∙ is in
     let was : still_left o ≡ 6 * (most_taken - o.taken) + 6 * (10001 - o.replied) + 6 = at_state o state.Reading is in
     let left : still_left n ≡ 6 * (most_taken - n.taken) + 6 * (10001 - n.replied) + 6 = at_state n state.Reading same in
@@ -96,13 +149,13 @@ feed_less next.More o n s u is few e f h =
       | inl some ↦ let more : o.taken < n.taken = taken_some o n s u 1 0 few h.moved some in omega (arith, few, more, was, left, h.replied)
       | inr end ↦ absurd (heard_end h.answer o n s u is end same h.once)
     ]
-feed_less next.Ready o n s u is few e f h =
+feed_less now next.Ready o n s u is few e f h =
     let taken : o.taken ≤ n.taken = taken_more o n s u 1 0 few h.moved in
     let was : still_left o ≡ 6 * (most_taken - o.taken) + 6 * (10001 - o.replied) + 6 = at_state o state.Reading is in
     let left : still_left n ≡ 6 * (most_taken - n.taken) + 6 * (10001 - n.replied) + 5 = at_state n state.Ready h.tells in
     omega (arith, taken, was, left, h.replied)
-feed_less next.TurnOver o n s u is few e f h = absurd h.tells
-feed_less next.Over o n s u is few e f h =
+feed_less now next.TurnOver o n s u is few e f h = absurd h.tells
+feed_less now next.Over o n s u is few e f h =
     let was : still_left o ≡ 6 * (most_taken - o.taken) + 6 * (10001 - o.replied) + 6 = at_state o state.Reading is in
     let left : still_left n ≡ 0 = at_state n state.Over h.tells in
     omega (arith, was, left)
@@ -114,8 +167,8 @@ turned_less state.Answering t r x q h more few rests = omega (arith, more, rests
 turned_less state.Hijacked t r x q h more few rests = omega (arith, more, few)
 turned_less state.Over t r x q h more few rests = omega arith
 
-pub turn_less : (a : Next) (o n : Shown) (s u : Seen) → o.state ≡ state.Ready → o.taken < most_taken → Turns a o n s u → still_left n < still_left o
-turn_less a o n s u is few h =
+pub turn_less : (now : ℕ) (a : Next) (o n : Shown) (s u : Seen) → o.state ≡ state.Ready → o.taken < most_taken → Turns now a o n s u → still_left n < still_left o
+turn_less now a o n s u is few h =
     let less : still_left n < left_of state.Ready o.taken o.replied (left_to n.owed n.after) =
     turned_less n.state o.taken o.replied n.taken n.replied (left_to n.owed n.after) (taken_more o n s u h.reads h.writes few h.moved)
     (left_few n.owed n.after) h.rests in
@@ -155,10 +208,10 @@ tail_less o n s u is some few h said =
     ]
 
 -- it is told what a read gives
-pub hear_less : (a : Next) (o n : Shown) (s u : Seen) → o.state ≡ state.Hijacked → o.owed ≡ [] → o.taken < most_taken → s.waits ≡ 0 → u.waits ≡ 0
-    → Feeds a o n s u → still_left n < still_left o
-hear_less next.Waiting o n s u is none few e f h = absurd (calm s.waits u.waits e f h.tells.3)
-hear_less next.More o n s u is none few e f h =
+pub hear_less : (now : ℕ) (a : Next) (o n : Shown) (s u : Seen) → o.state ≡ state.Hijacked → o.owed ≡ [] → o.taken < most_taken → s.waits ≡ 0 → u.waits ≡ 0
+    → Feeds now a o n s u → still_left n < still_left o
+hear_less now next.Waiting o n s u is none few e f h = absurd (calm s.waits u.waits e f h.tells.3)
+hear_less now next.More o n s u is none few e f h =
     let was : still_left o ≡ 6 * (most_taken - o.taken) + left_to o.owed o.after = at_state o state.Hijacked is in
     let two : left_to o.owed o.after ≡ 2 = left_none o.owed o.after none in
     let left : still_left n ≡ 6 * (most_taken - n.taken) + left_to n.owed n.after = at_state n state.Hijacked (h.tells.0 ∙ is) in
@@ -173,9 +226,9 @@ hear_less next.More o n s u is none few e f h =
           let one : left_to n.owed n.after ≡ 1 = left_last n.owed n.after (last.1 end (h.tells.0 ∙ is)).1 (last.1 end (h.tells.0 ∙ is)).0 in
           omega (arith, taken, was, two, left, one)
     ]
-hear_less next.Ready o n s u is none few e f h = elim (heard_state h.answer o n s u is h.once).0 [ inl x ↦ cc (x, h.tells) | inr x ↦ cc (x, h.tells) ]
-hear_less next.TurnOver o n s u is none few e f h = absurd h.tells
-hear_less next.Over o n s u is none few e f h =
+hear_less now next.Ready o n s u is none few e f h = elim (heard_state h.answer o n s u is h.once).0 [ inl x ↦ cc (x, h.tells) | inr x ↦ cc (x, h.tells) ]
+hear_less now next.TurnOver o n s u is none few e f h = absurd h.tells
+hear_less now next.Over o n s u is none few e f h =
     let was : still_left o ≡ 6 * (most_taken - o.taken) + left_to o.owed o.after = at_state o state.Hijacked is in
     let two : left_to o.owed o.after ≡ 2 = left_none o.owed o.after none in
     let left : still_left n ≡ 0 = at_state n state.Over h.tells in
@@ -192,23 +245,23 @@ owing_by state.Answering w x y e h = omega (arith, e, h refl)
 owing_by state.Hijacked w x y e h = omega arith
 owing_by state.Over w x y e h = omega arith
 
-pub flush_less : (a : Next) (o n : Shown) (s u : Seen) → o.state ≡ state.Answering → s.waits ≡ 0 → u.waits ≡ 0 → Flushes a o n s u
+pub flush_less : (now : ℕ) (a : Next) (o n : Shown) (s u : Seen) → o.state ≡ state.Answering → s.waits ≡ 0 → u.waits ≡ 0 → Flushes now a o n s u
     → still_owing n < still_owing o
-flush_less next.Waiting o n s u is e f h = absurd (calm s.waits u.waits e f h.tells.2)
-flush_less next.More o n s u is e f h =
+flush_less now next.Waiting o n s u is e f h = absurd (calm s.waits u.waits e f h.tells.2)
+flush_less now next.More o n s u is e f h =
     let was : still_owing o ≡ suc (length o.owed) = owing_at o state.Answering is in
     elim h.tells.0 [
       | inl reads ↦ let left : still_owing n ≡ 0 = owing_at n state.Reading reads in omega (arith, was, left)
       | inr on ↦ let left : still_owing n ≡ 0 = owing_at n state.Hijacked on.0 in omega (arith, was, left)
     ]
-flush_less next.Ready o n s u is e f h =
+flush_less now next.Ready o n s u is e f h =
     let was : still_owing o ≡ suc (length o.owed) = owing_at o state.Answering is in
     let left : still_owing n ≡ 0 = owing_at n state.Ready h.tells.0 in
     omega (arith, was, left)
-flush_less next.TurnOver o n s u is e f h =
+flush_less now next.TurnOver o n s u is e f h =
     subst (λ (k : ℕ). still_owing n < k) (sym (owing_at o state.Answering is))
     (owing_by n.state h.writes (length n.owed) (length o.owed) h.tells.1 (λ same. h.falls (same ∙ sym is)))
-flush_less next.Over o n s u is e f h =
+flush_less now next.Over o n s u is e f h =
     let was : still_owing o ≡ suc (length o.owed) = owing_at o state.Answering is in
     let left : still_owing n ≡ 0 = owing_at n state.Over h.tells in
     omega (arith, was, left)
@@ -228,10 +281,10 @@ some_owed : (xs : List ℕ) → xs ≢ [] → 0 < length xs
 some_owed [] some = absurd (some refl)
 some_owed (x ∷ xs) some = omega arith
 
-pub tail_falls : (a : Next) (o n : Shown) (s u : Seen) → o.state ≡ state.Hijacked → o.owed ≢ [] → s.waits ≡ 0 → u.waits ≡ 0 → Flushes a o n s u
+pub tail_falls : (now : ℕ) (a : Next) (o n : Shown) (s u : Seen) → o.state ≡ state.Hijacked → o.owed ≢ [] → s.waits ≡ 0 → u.waits ≡ 0 → Flushes now a o n s u
     → still_saying n < still_saying o
-tail_falls next.Waiting o n s u is some e f h = absurd (calm s.waits u.waits e f h.tells.2)
-tail_falls next.More o n s u is some e f h =
+tail_falls now next.Waiting o n s u is some e f h = absurd (calm s.waits u.waits e f h.tells.2)
+tail_falls now next.More o n s u is some e f h =
     let was : still_saying o ≡ suc (length o.owed) = saying_at o state.Hijacked is in
     elim h.tells.0 [
       | inl reads ↦ let left : still_saying n ≡ 0 = saying_at n state.Reading reads in omega (arith, was, left)
@@ -246,14 +299,14 @@ tail_falls next.More o n s u is some e f h =
   where
     two_states : o.state ≡ state.Answering → o.state ≡ state.Hijacked → ⊥
     two_states x y = cc
-tail_falls next.Ready o n s u is some e f h =
+tail_falls now next.Ready o n s u is some e f h =
     let was : still_saying o ≡ suc (length o.owed) = saying_at o state.Hijacked is in
     let left : still_saying n ≡ 0 = saying_at n state.Ready h.tells.0 in
     omega (arith, was, left)
-tail_falls next.TurnOver o n s u is some e f h =
+tail_falls now next.TurnOver o n s u is some e f h =
     subst (λ (k : ℕ). still_saying n < k) (sym (saying_at o state.Hijacked is))
     (saying_by n.state h.writes (length n.owed) (length o.owed) h.tells.1 (λ same. h.falls (same ∙ sym is)))
-tail_falls next.Over o n s u is some e f h =
+tail_falls now next.Over o n s u is some e f h =
     let was : still_saying o ≡ suc (length o.owed) = saying_at o state.Hijacked is in
     let left : still_saying n ≡ 0 = saying_at n state.Over h.tells in
     omega (arith, was, left)
@@ -278,6 +331,9 @@ room_for_turn runs calls e few = omega (arith, e, few)
 
 pub counts_on : (runs then_runs calls then_calls : ℕ) → runs ≡ calls → then_runs + calls ≡ runs + then_calls → then_runs ≡ then_calls
 counts_on runs then_runs calls then_calls e more = omega (arith, e, more)
+
+pub counts_same : (runs calls then_calls : ℕ) → runs ≡ calls → then_calls ≡ calls → runs ≡ then_calls
+counts_same runs calls then_calls e same = e ∙ sym same
 
 -- and answers as it did at the start
 pub answers_then : {H : Type 0} (S : Stacks H) (first now : Stack H) (lives later : List Life) → later ≡ lives

@@ -1,5 +1,5 @@
 -- Why a connection ended that was driven.
-use Rattle.std.proofs.Common.{◌≡◌, ◌≢◌, ◌≤◌, refl, ap, arith, Option, None, Some, inl, inr}
+use Rattle.std.proofs.Common.{◌≡◌, ◌≢◌, ◌≤◌, ℕ, refl, ap, subst, ◌∙◌, arith, Option, None, Some, inl, inr}
 use Rattle.rack_outside.specs.Link.{Seen}
 use Rattle.rack_outside.specs.Told.{Rose}
 use Rattle.rack_outside.specs.declared.link.LinkRead.{LinkRead}
@@ -8,7 +8,11 @@ use Rattle.rack_outside.proofs.CallerLemmas.{rose_within}
 use Rattle.talk_core.specs.declared.ended.Why.{Why}
 use Rattle.talk_core.specs.declared.ended.Why.TheVariants as why
 use Rattle.conn_core.specs.Calls.{TurnEnds, FeedEnds, IsOfFeed, Feeds}
+use Rattle.conn_core.specs.declared.moments.Ending.{Ending}
+use Rattle.conn_core.specs.declared.moments.Late.{Late}
+use Rattle.conn_core.specs.Keeps.{Drains, DrainsOnce}
 use Rattle.conn_core.specs.Moves.{FedTo, ToldTo, BehindRead}
+use Rattle.conn_core.specs.Opened.{untold}
 use Rattle.conn_core.specs.Shown.{Shown}
 use Rattle.conn_core.specs.declared.state.Next.{Next}
 use Rattle.conn_core.specs.declared.state.State.{State}
@@ -36,20 +40,37 @@ ends_on (Some (why.Halted level)) first s u reads writes h = h
 ends_on (Some why.NoMemory) first s u reads writes h = tt
 ends_on (Some why.Hijacked) first s u reads writes h = tt
 
--- by a turn or a flush
-pub turn_ends : (w : Option Why) (s u : Seen) → TurnEnds w s u → EndsSo w s u
+none_some : {A : Type 0} (x : A) → None ≡ Some x → ⊥
+none_some {A} x e = cc
+
+-- by a turn, or by a flush where no request took too long
+pub turn_ends : (w : Option Why) (s u : Seen) → TurnEnds None w s u → EndsSo w s u
 turn_ends None s u h = tt
 turn_ends (Some why.Closed) s u h = tt
 turn_ends (Some why.PeerEnd) s u h = tt
 turn_ends (Some (why.Idle by)) s u h = h
-turn_ends (Some (why.TimedOut since now)) s u h = h
-turn_ends (Some (why.Stalled since now)) s u h = h
+turn_ends (Some (why.TimedOut since moment)) s u h = none_some (record { since = since; now = moment }) h.0
+turn_ends (Some (why.Stalled since moment)) s u h = h
 turn_ends (Some (why.Unread level)) s u h = h
 turn_ends (Some why.ReadFailed) s u h = h.1
 turn_ends (Some why.WriteFailed) s u h = h.1
 turn_ends (Some (why.Halted level)) s u h = h
 turn_ends (Some why.NoMemory) s u h = tt
 turn_ends (Some why.Hijacked) s u h = tt
+
+pub flush_ends : (e : Ending) (w : Option Why) (s u : Seen) → e ≡ untold → TurnEnds e.late w s u → EndsSo w s u
+flush_ends e w s u is h = turn_ends w s u (subst (λ (x : Ending). TurnEnds x.late w s u) is h)
+
+-- nothing was told of its end, and so nothing comes of a drain
+told_of : (o n : Shown) → o.ending ≡ untold → DrainsOnce o n → ⊥
+told_of o n is d = omega (arith, ap (λ (x : Ending). x.told) is, d.1)
+
+pub still_untold : (o n : Shown) → o.ending ≡ untold → Drains o n → n.ending ≡ o.ending
+still_untold o n is h =
+    let closing : n.ending.closing ≡ o.ending.closing = elim h.closing [ inl same ↦ same | inr once ↦ absurd (told_of o n is once) ] in
+    ap (λ (x : ℕ). record { told = x; closing = n.ending.closing; late = n.ending.late }) h.told
+    ∙ ap (λ (x : Option ℕ). record { told = o.ending.told; closing = x; late = n.ending.late }) closing
+    ∙ ap (λ (x : Option Late). record { told = o.ending.told; closing = o.ending.closing; late = x }) h.late
 
 -- behind bytes no read has failed
 fed_sound : (b : State) (w : Option Why) → FedTo b w → w ≢ Some why.ReadFailed
@@ -96,8 +117,8 @@ feed_ends_by (Some (why.Halted level)) s u h fails = h
 feed_ends_by (Some why.NoMemory) s u h fails = tt
 feed_ends_by (Some why.Hijacked) s u h fails = tt
 
-pub feed_ends : (a : Next) (o n : Shown) (s u : Seen) → o.why ≡ None → Feeds a o n s u → EndsSo n.why s u
-feed_ends a o n s u none h = feed_ends_by n.why s u h.why (read_fails o.state h.answer o n s u none h.once.behind h.ends)
+pub feed_ends : (now : ℕ) (a : Next) (o n : Shown) (s u : Seen) → o.why ≡ None → Feeds now a o n s u → EndsSo n.why s u
+feed_ends now a o n s u none h = feed_ends_by n.why s u h.why (read_fails o.state h.answer o n s u none h.once.behind h.ends)
 
 -- only so a connection ends that nobody drains, halts or times
 pub of_once : (w : Why) (s u : Seen) → EndsSo (Some w) s u → IsOfOnce w

@@ -9,7 +9,8 @@ use Rattle.reply_framing.specs.declared.types.After.{After}
 use Rattle.reply_framing.specs.declared.types.After.TheVariants.{Close}
 use Rattle.talk_core.specs.declared.ended.Why.{Why}
 use Rattle.conn_core.specs.Calls.{Flushes, Leaves}
-use Rattle.conn_core.specs.Moves.{ToldTo, BehindRead, ReadsOnce, StillOwes, SentTo, BehindWrite, Move, Run, Refusal, Want, Read, Write, Moment, Makes, Goes, IsOwing, flush_at}
+use Rattle.conn_core.specs.Keeps.{reaching}
+use Rattle.conn_core.specs.Moves.{ToldTo, BehindRead, ReadsOnce, StillOwes, SentTo, BehindWrite, Move, Run, Refusal, Want, Read, Write, Moment, MakesMove, Goes, IsOwing, flush_at}
 use Rattle.conn_core.specs.Shown.{Shown}
 use Rattle.conn_core.specs.declared.state.Next.{Next}
 use Rattle.conn_core.specs.declared.state.State.{State}
@@ -73,7 +74,7 @@ written_last write.NoMemory o n h b = inl b.0
 over_owes : (c : Shown) → c.state ≡ state.Over → IsOwing c → ⊥
 over_owes c e owes = elim owes [ inl x ↦ cc (x, e) | inr x ↦ cc (x.0, e) ]
 
-last_moved : (move : Move) (m n : Moment) → Makes move m n → Lasts m.shown → Lasts n.shown
+last_moved : (move : Move) (m n : Moment) → MakesMove move m n → Lasts m.shown → Lasts n.shown
 last_moved Run m n h last = absurd (lasts_not m.shown state.Ready last h.0 (λ e. cc) (λ e. cc))
 last_moved (Refusal f) m n h last = absurd (lasts_not m.shown state.Ready last h.0 (λ e. cc) (λ e. cc))
 last_moved Want m n h last = elim h.0 [
@@ -86,9 +87,9 @@ last_moved (Write a) m n h last = elim last [
   | inr says ↦ written_last a m.shown n.shown says h.3.behind
 ]
 
-last_goes : (moves : List Move) (m n : Moment) → Goes moves m n → Lasts m.shown → Lasts n.shown
-last_goes [] m n h last = subst (λ (x : Moment). Lasts x.shown) (sym h) last
-last_goes (move ∷ moves) m n h last = last_goes moves h.0 n h.3 (last_moved move m h.0 h.1 last)
+last_goes : (now : ℕ) (moves : List Move) (m n : Moment) → Goes now moves m n → Lasts m.shown → Lasts n.shown
+last_goes now [] m n h last = subst (λ (x : Moment). Lasts x.shown) (sym h) last
+last_goes now (move ∷ moves) m n h last = last_goes now moves h.0 n h.3 (last_moved move m h.0 h.1.0 last)
 
 -- a hijacker that has the connection is heard until it is over
 pub heard_start : (o : Shown) → o.state ≡ state.Hijacked → o.owed ≢ [] → IsHeard o o
@@ -100,12 +101,19 @@ heard_by o m n is on last = elim is [
   | inr over ↦ inl over
 ]
 
-pub heard_then : (a : Next) (o m n : Shown) (s u : Seen) → IsHeard o m → m.state ≡ state.Hijacked → Flushes a m n s u → IsHeard o n
-heard_then a o m n s u heard is h =
-    let leaves : Leaves state.Hijacked m n = subst (λ (x : State). Leaves x m n) is h.rests in
+-- the moment that a call is handed changes nothing of it
+says_reaching : (now : ℕ) (m : Shown) → SaysLast m → SaysLast (reaching now m)
+says_reaching now m h = record { state = h.state; after = h.after; owed = h.owed }
+
+pub heard_then : (now : ℕ) (a : Next) (o m n : Shown) (s u : Seen) → IsHeard o m → m.state ≡ state.Hijacked → Flushes now a (reaching now m) n s u
+    → IsHeard o n
+heard_then now a o m n s u heard is h =
+    let leaves : Leaves state.Hijacked (reaching now m) n = subst (λ (x : State). Leaves x (reaching now m) n) is h.rests in
     elim heard [
       | inl over ↦ cc (over, is)
-      | inr has ↦ heard_by o m n leaves.1 (λ says. last_goes h.moves (flush_at m s 0 false) (flush_at n u h.writes h.waited) h.made (inr says)) has.1
+      | inr has ↦ heard_by o m n leaves.1
+          (λ says. last_goes now h.moves (flush_at (reaching now m) s 0 false) (flush_at n u h.writes h.waited) h.made (inr (says_reaching now m says)))
+          has.1
     ]
 
 -- one of which bytes are owed is hijacked

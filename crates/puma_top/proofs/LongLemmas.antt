@@ -12,7 +12,7 @@ use Rattle.talk_core.specs.Tail.{tail_of}
 use Rattle.talk_core.specs.Teller.{Teller}
 use Rattle.talk_core.proofs.CallerLemmas.{begins_answer, stands_more}
 use Rattle.conn_core.specs.Shown.{Shown, Moved}
-use Rattle.conn_core.proofs.CallerLemmas.{taken_by, PartAt}
+use Rattle.conn_core.proofs.CallerLemmas.{taken_by, Part}
 use Rattle.puma_top.specs.Once.{Site, once_peer, once_voice, teller_of, AnsweredInPart, most_taken, Told, ServedLong}
 use Rattle.puma_top.specs.Seen.{SourceSeen, SinkSeen}
 
@@ -30,6 +30,14 @@ told source sink s peer given sent over are h = record {
   given_is = subst (λ (o : Option (List ℕ)). Tells o given) (sym are.given) h.given_is;
   written_is = subst (λ (o : Option (List ℕ)). Tells o sent) (sym are.written) h.sent_is;
 }
+
+-- a connection of which nothing closes by draining, and no request took too long, stands in part for this talk
+pub record PartOnce (site : Site) (s : Seen) (calls : ℕ) (owed : List ℕ) : Type 0 where
+  pub given : List ℕ
+  pub sent : List ℕ
+  pub over : Bool
+  pub shows : Shows s once_peer given sent over
+  pub part : Part once_voice (teller_of site) over given sent calls None false owed
 
 -- the stock hijackers say nothing at the end
 none_at_end : (goes over : Bool) (end : List ℕ) → end ≡ [] → (if goes then if over then end else [] else []) ≡ []
@@ -62,19 +70,18 @@ given_is (Some xs) now came given start is tells =
     inr (sym (subst (λ (o : Option (List ℕ)). Tells o given) here tells))
 
 -- a front of the answer to what was given is one of the answer to more
-begins_more : (site : Site) (s : Seen) (calls : ℕ) (more : List ℕ) (h : PartAt s once_peer once_voice (teller_of site) calls)
-    → AnsweredInPart site (h.given ++ more) h.sent
-begins_more site s calls more h =
+begins_more : (site : Site) (s : Seen) (calls : ℕ) (owed more : List ℕ) (h : PartOnce site s calls owed) → AnsweredInPart site (h.given ++ more) h.sent
+begins_more site s calls owed more h =
     let T : Teller Stock = teller_of site in
     let p = h.part.partly in
-    let further = stands_more once_voice T h.over h.given h.sent p.k h.part.word p.rest h.part.lacks more h.part.timed
+    let further = stands_more once_voice T h.over h.given h.sent p.k h.part.word p.rest owed more h.part.timed
     (λ x. tail_longer x p.rest more h.over) p.stands in
     begins_answer once_voice T h.over (h.given ++ more) h.sent calls None h.part.word further.0
     (record { k = p.k; rest = p.rest ++ more; calls_is = p.calls_is; stands = further.1; closes = tt }) h.part.timed
 
-module _ (site : Site) (s : Seen) (calls : ℕ) (source : SourceSeen) (sink : SinkSeen) (are : AreOf source sink s) where
+module _ (site : Site) (s : Seen) (calls : ℕ) (owed : List ℕ) (source : SourceSeen) (sink : SinkSeen) (are : AreOf source sink s) where
   pub serves_long : (o n : Shown) (s0 : Seen) (x y : ℕ) → o.taken ≡ 0 → Tells s0.given [] → Moved o n s0 s x y → most_taken ≤ n.taken
-      → PartAt s once_peer once_voice (teller_of site) calls → ServedLong site source sink
+      → PartOnce site s calls owed → ServedLong site source sink
   serves_long o n s0 x y none start moved long h =
       let few : o.taken < 2 ^ 64 = omega (arith, none) in
       let taken : n.taken ≡ min (o.taken + length moved.came) (2 ^ 64 - 1) = moved.taken ∙ taken_by (length moved.came) o.taken few in
@@ -89,7 +96,7 @@ module _ (site : Site) (s : Seen) (calls : ℕ) (source : SourceSeen) (sink : Si
                 given_is = subst (λ (o : Option (List ℕ)). Tells o (h.given ++ more.0)) (sym (are.given ∙ untold)) tt;
                 written_is = subst (λ (o : Option (List ℕ)). Tells o h.sent) (sym are.written) h.shows.sent_is;
               };
-              begins = begins_more site s calls more.0 h;
+              begins = begins_more site s calls owed more.0 h;
               long = all;
             }
         | inr same ↦
@@ -98,7 +105,7 @@ module _ (site : Site) (s : Seen) (calls : ℕ) (source : SourceSeen) (sink : Si
               given = h.given;
               written = h.sent;
               told = told source sink s once_peer h.given h.sent h.over are h.shows;
-              begins = begins_answer once_voice (teller_of site) h.over h.given h.sent calls None h.part.word h.part.lacks h.part.partly h.part.timed;
+              begins = begins_answer once_voice (teller_of site) h.over h.given h.sent calls None h.part.word owed h.part.partly h.part.timed;
               long = all;
             }
       ]

@@ -26,11 +26,12 @@ EndsSo (Some (why.Halted level)) s s' = ⊥
 EndsSo (Some why.NoMemory) s s' = ⊤
 EndsSo (Some why.Hijacked) s s' = ⊤
 
--- what so many reads and writes leave, and why it ended since, where it did
+-- what so many reads and writes leave, and why it ended since, where it did. Nobody told it of an end
 pub record Drives (old new : Shown) (s s' : Seen) : Type 0 where
   pub reads : ℕ
   pub writes : ℕ
   pub moved : Moved old new s s' reads writes
+  pub ending : new.ending ≡ old.ending
   pub ends : EndsSo new.why s s'
 
 -- it ended, or gave too many bytes

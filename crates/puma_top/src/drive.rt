@@ -4,6 +4,7 @@ ghost use Rattle.rack_types.specs.Env.{Pairs};
 ghost use Rattle.talk_core.specs.Teller.{Stacks, last_phase};
 ghost use Rattle.conn_core.specs.Calls.{RestsBehind};
 ghost use Rattle.conn_core.specs.Holds.{Holds};
+ghost use Rattle.conn_core.specs.Opened.{untold};
 ghost use Rattle.conn_core.specs.Shown.{shown, link_of};
 ghost use Rattle.puma_top.specs.Drive.{Drives, IsDriven, IsSaid};
 
@@ -23,6 +24,7 @@ pub(crate) fn drive<L: Link, B: Body, H: Hijack + Drop, R: Runner<B, H>>(
     requires patient { (l : L) → (L.seen l).waits ≡ 0 }
     requires unrun { R.runs runner.old ≡ (shown conn.old).calls }
     requires live { (shown conn.old).state ≢ State.Over }
+    requires untold { (shown conn.old).ending ≡ untold }
     ensures drives { Drives (shown conn.old) (shown conn.new) (L.seen (link_of conn.old)) (L.seen (link_of conn.new)) }
     ensures done { IsDriven (shown conn.new) }
     ensures holds { (S : Stacks H) → R.steady ≡ true
@@ -83,6 +85,7 @@ fn is_answering<L: Link, B: Body, H: Hijack + Drop>(conn: &Conn<L, B, H>) -> boo
 fn say_reply<L: Link, B: Body, H: Hijack + Drop>(conn: &mut Conn<L, B, H>)
     requires patient { (l : L) → (L.seen l).waits ≡ 0 }
     requires answers { (shown conn.old).state ≡ State.Answering }
+    requires untold { (shown conn.old).ending ≡ untold }
     ensures drives { Drives (shown conn.old) (shown conn.new) (L.seen (link_of conn.old)) (L.seen (link_of conn.new)) }
     ensures calls { (shown conn.new).calls ≡ (shown conn.old).calls }
     ensures rests { RestsBehind (shown conn.new).state (shown conn.old).replied (shown conn.new).replied }
@@ -99,6 +102,7 @@ fn say_tail<L: Link, B: Body, H: Hijack + Drop>(conn: &mut Conn<L, B, H>)
     requires patient { (l : L) → (L.seen l).waits ≡ 0 }
     requires hijacked { (shown conn.old).state ≡ State.Hijacked }
     requires owes { (shown conn.old).owed ≢ [] }
+    requires untold { (shown conn.old).ending ≡ untold }
     ensures drives { Drives (shown conn.old) (shown conn.new) (L.seen (link_of conn.old)) (L.seen (link_of conn.new)) }
     ensures calls { (shown conn.new).calls ≡ (shown conn.old).calls }
     ensures said { IsSaid (shown conn.old) (shown conn.new) }

@@ -2,16 +2,12 @@
 #![tactic(auto)]
 
 mod check;
-#[cfg(test)]
-mod crossing;
 mod drive;
 mod laws;
 mod once;
 mod quiet;
 mod stack;
 mod status;
-#[cfg(test)]
-mod tests;
 
 pub use laws::{one_answer_at_most, one_stack_at_most};
 pub use quiet::run_quiet;

@@ -2,10 +2,10 @@ use Rattle.std.proofs.Common.{◌≡◌, refl, subst, ◌∙◌, inl}
 use Rattle.conn_core.specs.Calls.{RestsBehind, Leaves}
 use Rattle.conn_core.specs.declared.state.State.{State}
 use Rattle.conn_core.specs.declared.state.State.TheVariants as state
+use Rattle.conn_core.specs.Keeps.{reaching}
 use Rattle.conn_core.specs.Shown.{shown, link_of}
 use Rattle.conn_core.proofs.CallerLemmas.{unended}
-use Rattle.puma_top.proofs.DriveLemmas.{driven_none, driven, flush_less, rests_start, rests_then}
-use Rattle.puma_top.proofs.EndsLemmas.{turn_ends}
+use Rattle.puma_top.proofs.DriveLemmas.{driven_none, flush_driven, flush_less, rests_start, rests_then}
 use Rattle.puma_top.proofs.drive.say_reply.Goals as goal
 
 pub loop-conn-init : goal.loop-conn-init
@@ -23,7 +23,7 @@ flush-next-requires g c = record { owes = inl (c.is_answering.ensures.0 c.loop-c
 
 pub loop-conn-smaller : goal.loop-conn-smaller
 loop-conn-smaller g c =
-    flush_less c.flush-next.result (shown c.loop-conn.conn) (shown c.flush-next.new.self) (g.L.Link.seen (link_of c.loop-conn.conn)) (g.L.Link.seen (link_of c.flush-next.new.self))
+    flush_less 0 c.flush-next.result (reaching 0 (shown c.loop-conn.conn)) (shown c.flush-next.new.self) (g.L.Link.seen (link_of c.loop-conn.conn)) (g.L.Link.seen (link_of c.flush-next.new.self))
     (c.is_answering.ensures.0 c.loop-conn-test.true) (c.requires.patient (link_of c.loop-conn.conn)) (c.requires.patient (link_of c.flush-next.new.self))
     c.flush-next.ensures.flushes
 
@@ -34,12 +34,11 @@ loop-conn-preserved g c =
     let o = shown c.loop-conn.conn in
     let n = shown c.flush-next.new.self in
     let is : o.state ≡ state.Answering = c.is_answering.ensures.0 c.loop-conn-test.true in
-    let rests : RestsBehind n.state o.replied n.replied = subst (λ (x : State). Leaves x o n) is f.rests in
+    let rests : RestsBehind n.state o.replied n.replied = subst (λ (x : State). Leaves x (reaching 0 o) n) is f.rests in
     record {
-      drives = driven (shown c.args.conn.now) o n (g.L.Link.seen (link_of c.args.conn.now)) (g.L.Link.seen (link_of c.loop-conn.conn))
-          (g.L.Link.seen (link_of c.flush-next.new.self)) 0 f.writes i.drives f.moved
-          (turn_ends n.why (g.L.Link.seen (link_of c.loop-conn.conn)) (g.L.Link.seen (link_of c.flush-next.new.self)) f.ends);
-      calls = f.calls ∙ i.calls;
+      drives = flush_driven 0 c.flush-next.result (shown c.args.conn.now) o n (g.L.Link.seen (link_of c.args.conn.now)) (g.L.Link.seen (link_of c.loop-conn.conn))
+          (g.L.Link.seen (link_of c.flush-next.new.self)) c.requires.untold i.drives f;
+      calls = ◌∙◌ {b = o.calls} f.calls i.calls;
       rests = rests_then o.state n.state (shown c.args.conn.now).replied o.replied n.replied is i.rests rests;
       holds = λ S h. c.flush-next.ensures.holds S (i.holds S h);
     }

@@ -1,9 +1,9 @@
 use Rattle.std.proofs.Common.{◌≡◌, [], refl, ◌∙◌}
 use Rattle.conn_core.specs.declared.state.State.TheVariants as state
+use Rattle.conn_core.specs.Keeps.{reaching}
 use Rattle.conn_core.specs.Shown.{shown, link_of}
 use Rattle.conn_core.proofs.CallerLemmas.{unended}
-use Rattle.puma_top.proofs.DriveLemmas.{driven_none, driven, tail_falls}
-use Rattle.puma_top.proofs.EndsLemmas.{turn_ends}
+use Rattle.puma_top.proofs.DriveLemmas.{driven_none, flush_driven, tail_falls}
 use Rattle.puma_top.proofs.HeardLemmas.{heard_start, heard_then, heard_owes, heard_said, none_owed}
 use Rattle.puma_top.proofs.drive.say_tail.Goals as goal
 
@@ -25,7 +25,7 @@ loop-conn-smaller g c =
     let o = shown c.args.conn.now in
     let m = shown c.loop-conn.conn in
     let is : m.state ≡ state.Hijacked = heard_owes o m c.loop-conn.invariant.heard (c.wants_write.ensures.state.0 c.loop-conn-test.true) in
-    tail_falls c.flush-next.result m (shown c.flush-next.new.self) (g.L.Link.seen (link_of c.loop-conn.conn)) (g.L.Link.seen (link_of c.flush-next.new.self))
+    tail_falls 0 c.flush-next.result (reaching 0 m) (shown c.flush-next.new.self) (g.L.Link.seen (link_of c.loop-conn.conn)) (g.L.Link.seen (link_of c.flush-next.new.self))
     is (c.wants_write.ensures.bytes.0 c.loop-conn-test.true) (c.requires.patient (link_of c.loop-conn.conn)) (c.requires.patient (link_of c.flush-next.new.self))
     c.flush-next.ensures.flushes
 
@@ -38,11 +38,10 @@ loop-conn-preserved g c =
     let n = shown c.flush-next.new.self in
     let is : m.state ≡ state.Hijacked = heard_owes o m i.heard (c.wants_write.ensures.state.0 c.loop-conn-test.true) in
     record {
-      drives = driven o m n (g.L.Link.seen (link_of c.args.conn.now)) (g.L.Link.seen (link_of c.loop-conn.conn))
-          (g.L.Link.seen (link_of c.flush-next.new.self)) 0 f.writes i.drives f.moved
-          (turn_ends n.why (g.L.Link.seen (link_of c.loop-conn.conn)) (g.L.Link.seen (link_of c.flush-next.new.self)) f.ends);
-      calls = f.calls ∙ i.calls;
-      heard = heard_then c.flush-next.result o m n (g.L.Link.seen (link_of c.loop-conn.conn)) (g.L.Link.seen (link_of c.flush-next.new.self)) i.heard is f;
+      drives = flush_driven 0 c.flush-next.result o m n (g.L.Link.seen (link_of c.args.conn.now)) (g.L.Link.seen (link_of c.loop-conn.conn))
+          (g.L.Link.seen (link_of c.flush-next.new.self)) c.requires.untold i.drives f;
+      calls = ◌∙◌ {b = m.calls} f.calls i.calls;
+      heard = heard_then 0 c.flush-next.result o m n (g.L.Link.seen (link_of c.loop-conn.conn)) (g.L.Link.seen (link_of c.flush-next.new.self)) i.heard is f;
       holds = λ S h. c.flush-next.ensures.holds S (i.holds S h);
     }
 
