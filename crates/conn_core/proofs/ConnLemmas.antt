@@ -341,7 +341,7 @@ pub turn_at : {B H : Type 0} {g : Ghosts B} (V : Voice H) (S : Stacks H) (old sa
     → HoldsBy V (tell S old.lives.items old.local old.peer old.ending.closing) s old
     → AreLives new.lives.items × HoldsBy V (tell S new.lives.items new.local new.peer new.ending.closing) s' new
 turn_at {B} {H} {g} V S old same t new s s' stack e peer local lives drains are answers step h =
-    turn_holds V S same new s s' stack peer local lives (record { told = drains.told; late = drains.late; closing = drains.closing })
+    turn_holds V S same new s s' stack peer local lives (record { told = drains.told; late = drains.late; left = drains.left; closing = drains.closing })
     (subst (λ (x : Inside B H g). AreLives x.lives.items) (sym e) are)
     (subst (λ (x : Inside B H g). (ps : Pairs) (input : List ℕ) → S (last_phase x.lives.items) ps input ≡ stack ps input) (sym e) answers) step
     (subst (λ (x : Inside B H g). HoldsBy V (tell S x.lives.items x.local x.peer x.ending.closing) s x) (sym e) h)

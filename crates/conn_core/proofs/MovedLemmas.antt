@@ -126,6 +126,7 @@ pub drains_same : (o n : Shown) → n.ending ≡ o.ending → Drains o n
 drains_same o n e = record {
   told = ap (λ (x : Ending). x.told) e;
   late = ap (λ (x : Ending). x.late) e;
+  left = ap (λ (x : Ending). x.left) e;
   closing = inl (ap (λ (x : Ending). x.closing) e);
 }
 
@@ -133,6 +134,7 @@ pub drains_then : (o m n : Shown) → m.calls ≤ n.calls → o.calls ≤ m.call
 drains_then o m n more few h k = record {
   told = k.told ∙ h.told;
   late = k.late ∙ h.late;
+  left = k.left ∙ h.left;
   closing = elim h.closing [
     | inl same ↦ elim k.closing [
       | inl again ↦ inl (again ∙ same)
@@ -167,6 +169,7 @@ pub drains_run : (o n : Shown) → n.calls ≡ o.calls + 1 → n.ending ≡ endi
 drains_run o n one is none = record {
   told = ap (λ (x : Ending). x.told) is;
   late = ap (λ (x : Ending). x.late) is;
+  left = ap (λ (x : Ending). x.left) is;
   closing = go (nat_lt 0 o.ending.told) (no_bytes o.held) refl (ap (λ (x : Ending). x.closing) is);
 }
   where

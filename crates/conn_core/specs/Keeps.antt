@@ -150,4 +150,5 @@ DrainsOnce old new =
 pub record Drains (old new : Shown) : Type 0 where
   pub told : new.ending.told ≡ old.ending.told
   pub late : new.ending.late ≡ old.ending.late
+  pub left : new.ending.left ≡ old.ending.left
   pub closing : (new.ending.closing ≡ old.ending.closing) ⊎ DrainsOnce old new

@@ -1,5 +1,5 @@
 -- Why a connection ended that was driven.
-use Rattle.std.proofs.Common.{◌≡◌, ◌≢◌, ◌≤◌, ℕ, refl, ap, subst, ◌∙◌, arith, Option, None, Some, inl, inr}
+use Rattle.std.proofs.Common.{Bool, ◌≡◌, ◌≢◌, ◌≤◌, ℕ, refl, ap, subst, ◌∙◌, arith, Option, None, Some, inl, inr}
 use Rattle.rack_outside.specs.Link.{Seen}
 use Rattle.rack_outside.specs.Told.{Rose}
 use Rattle.rack_outside.specs.declared.link.LinkRead.{LinkRead}
@@ -68,9 +68,10 @@ told_of o n is d = omega (arith, ap (λ (x : Ending). x.told) is, d.1)
 pub still_untold : (o n : Shown) → o.ending ≡ untold → Drains o n → n.ending ≡ o.ending
 still_untold o n is h =
     let closing : n.ending.closing ≡ o.ending.closing = elim h.closing [ inl same ↦ same | inr once ↦ absurd (told_of o n is once) ] in
-    ap (λ (x : ℕ). record { told = x; closing = n.ending.closing; late = n.ending.late }) h.told
-    ∙ ap (λ (x : Option ℕ). record { told = o.ending.told; closing = x; late = n.ending.late }) closing
-    ∙ ap (λ (x : Option Late). record { told = o.ending.told; closing = o.ending.closing; late = x }) h.late
+    ap (λ (x : ℕ). record { told = x; closing = n.ending.closing; late = n.ending.late; left = n.ending.left }) h.told
+    ∙ ap (λ (x : Option ℕ). record { told = o.ending.told; closing = x; late = n.ending.late; left = n.ending.left }) closing
+    ∙ ap (λ (x : Option Late). record { told = o.ending.told; closing = o.ending.closing; late = x; left = n.ending.left }) h.late
+    ∙ ap (λ (x : Bool). record { told = o.ending.told; closing = o.ending.closing; late = o.ending.late; left = x }) h.left
 
 -- behind bytes no read has failed
 fed_sound : (b : State) (w : Option Why) → FedTo b w → w ≢ Some why.ReadFailed

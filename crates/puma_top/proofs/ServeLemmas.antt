@@ -53,7 +53,7 @@ pub record EndsOnce (site : Site) (s : Seen) (calls : ℕ) (w : Why) : Type 0 wh
   pub sent : List ℕ
   pub over : Bool
   pub shows : Shows s once_peer given sent over
-  pub ends : EndsPlainly false w once_voice (teller_of site) (past s calls given sent over)
+  pub ends : EndsPlainly untold w once_voice (teller_of site) (past s calls given sent over)
 
 -- over the peer, the side and the life of once
 module _ (site : Site) (s : Seen) (n : Shown) (peer : n.peer ≡ once_peer) (lives : n.lives ≡ once_lives) (local : n.local ≡ once_local site.hijack)
@@ -73,8 +73,8 @@ module _ (site : Site) (s : Seen) (n : Shown) (peer : n.peer ≡ once_peer) (liv
         sent = h.sent;
         over = h.over;
         shows = subst (λ (p : List ℕ). Shows s p h.given h.sent h.over) peer h.shows;
-        ends = subst (λ (t : Teller Stock). EndsPlainly false w once_voice t (past s n.calls h.given h.sent h.over)) teller_is
-            (subst (λ (e : Ending). EndsPlainly (is_some e.late) w once_voice T
+        ends = subst (λ (t : Teller Stock). EndsPlainly untold w once_voice t (past s n.calls h.given h.sent h.over)) teller_is
+            (subst (λ (e : Ending). EndsPlainly e w once_voice T
             (record (past s n.calls h.given h.sent h.over) { told = e.told; closing = e.closing })) ending h.ends);
       }
 
@@ -137,10 +137,10 @@ module _ (site : Site) (s : Seen) (calls : ℕ) (source : SourceSeen) (sink : Si
       → EndsOnce site s calls why.Hijacked → ServedAll site source sink
   serves_hijacked front whole l e h =
       let p : Past = past s calls h.given h.sent h.over in
-      let x : Stock = h.ends.0 in
-      let rest : List ℕ = h.ends.1 in
-      let last : goes_on once_voice x rest h.over ≡ false = undrained (goes_on once_voice x rest h.over) h.ends.5 in
-      let all : AnsweredAll site h.given h.sent = answer_handed once_voice (teller_of site) p x rest h.ends.2 h.ends.3 h.ends.4 last in
+      let x : Stock = h.ends.h in
+      let rest : List ℕ = h.ends.rest in
+      let last : goes_on once_voice x rest h.over ≡ false = undrained (goes_on once_voice x rest h.over) h.ends.drain in
+      let all : AnsweredAll site h.given h.sent = answer_handed once_voice (teller_of site) p x rest h.ends.said h.ends.whole h.ends.sent last in
       record {
         given = h.given;
         written = h.sent;
@@ -150,23 +150,23 @@ module _ (site : Site) (s : Seen) (calls : ℕ) (source : SourceSeen) (sink : Si
         ended = λ input g i. over_ended h.over refl last input g i;
       }
     where
-      over_input : (b : Bool) → h.over ≡ b → AnsweredAll site h.given h.sent → goes_on once_voice h.ends.0 h.ends.1 h.over ≡ false → (input : List ℕ)
+      over_input : (b : Bool) → h.over ≡ b → AnsweredAll site h.given h.sent → goes_on once_voice h.ends.h h.ends.rest h.over ≡ false → (input : List ℕ)
           → source.given ≡ Some h.given → source.input ≡ Some input → AnsweredAll site input h.sent
       over_input true is all last input g i =
           subst (λ (z : List ℕ). AnsweredAll site z h.sent) (all_is h.given input h.over whole l e h.shows.over_is is g i) all
       over_input false is all last input g i =
           let more : List ℕ = drop (length h.given) input in
-          let stopped : goes_on once_voice h.ends.0 h.ends.1 false ≡ false = subst (λ (o : Bool). goes_on once_voice h.ends.0 h.ends.1 o ≡ false) is last in
+          let stopped : goes_on once_voice h.ends.h h.ends.rest false ≡ false = subst (λ (o : Bool). goes_on once_voice h.ends.h h.ends.rest o ≡ false) is last in
           subst (λ (z : List ℕ). AnsweredAll site z h.sent) (input_is h.given input front g i)
-          (answer_stopped once_voice (teller_of site) (past s calls h.given h.sent h.over) h.ends.0 h.ends.1 h.ends.2 more h.ends.3 h.ends.4 stopped
-          (stock-stops h.ends.0 h.ends.1 more stopped))
+          (answer_stopped once_voice (teller_of site) (past s calls h.given h.sent h.over) h.ends.h h.ends.rest h.ends.said more h.ends.whole h.ends.sent stopped
+          (stock-stops h.ends.h h.ends.rest more stopped))
 
-      over_ended : (b : Bool) → h.over ≡ b → goes_on once_voice h.ends.0 h.ends.1 h.over ≡ false → (input : List ℕ)
+      over_ended : (b : Bool) → h.over ≡ b → goes_on once_voice h.ends.h h.ends.rest h.over ≡ false → (input : List ℕ)
           → source.given ≡ Some h.given → source.input ≡ Some input → (h.given ≡ input) ⊎ ClosedOn site h.given
       over_ended true is last input g i = inl (all_is h.given input h.over whole l e h.shows.over_is is g i)
       over_ended false is last input g i =
-          inr (stopped_on once_voice (teller_of site) (past s calls h.given h.sent h.over) h.ends.0 h.ends.1 h.ends.2 h.ends.3
-          (subst (λ (o : Bool). goes_on once_voice h.ends.0 h.ends.1 o ≡ false) is last))
+          inr (stopped_on once_voice (teller_of site) (past s calls h.given h.sent h.over) h.ends.h h.ends.rest h.ends.said h.ends.whole
+          (subst (λ (o : Bool). goes_on once_voice h.ends.h h.ends.rest o ≡ false) is last))
 
   pub serves_given : EndsOnce site s calls why.ReadFailed → ServedGiven site source sink
   serves_given h =
