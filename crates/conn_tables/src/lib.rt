@@ -5,6 +5,8 @@
 #[cfg(test)]
 mod apps;
 #[cfg(test)]
+mod counts;
+#[cfg(test)]
 mod drains;
 #[cfg(test)]
 mod drains_answered;
@@ -17,7 +19,11 @@ mod idle;
 #[cfg(test)]
 mod late;
 #[cfg(test)]
+mod leaves;
+#[cfg(test)]
 mod moments;
+#[cfg(test)]
+mod notes;
 #[cfg(test)]
 mod peers;
 #[cfg(test)]
@@ -30,3 +36,5 @@ mod stalled;
 mod steps;
 #[cfg(test)]
 mod texts;
+#[cfg(test)]
+mod watches;

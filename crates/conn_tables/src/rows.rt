@@ -2,8 +2,9 @@
 use crate::apps::App;
 use crate::steps::{MemConn, Step, goes};
 use conn_core::{Conn, Ended, State, Why};
+use hijack_core::Hijack;
 use rack_outside::MemLink;
-use rack_types::{Bytes, Limits, Local, Peer};
+use rack_types::{Bytes, Limits, Local, Peer, Plain};
 use std::alloc::Global;
 
 /// The moment at which each connection is opened.
@@ -43,7 +44,8 @@ fn wrong_from(alloc: Global, row: &Row, mut conn: MemConn) -> Option<usize> {
     }
 }
 
-fn opened(alloc: Global) -> Option<MemConn> {
+/// A fresh connection, on a link that has given nothing.
+pub(crate) fn opened<H: Hijack + Drop>(alloc: Global) -> Option<Conn<MemLink, Plain, H>> {
     let link = MemLink::new(alloc, 3, Bytes::new(Vec::new(alloc)));
     let local = Local {
         name: Peer::new(b"localhost").unwrap(),
