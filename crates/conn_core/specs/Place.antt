@@ -34,6 +34,20 @@ state_at {B} {H} (at.Speaking h) = state.Hijacked
 state_at {B} {H} at.Parting = state.Hijacked
 state_at {B} {H} (at.Over why) = state.Over
 
+-- a framer holds the rest of a reply
+abbrev pub IsFraming : {B H : Type 0} → At B H → Type 0
+IsFraming {B} {H} at.Reading = ⊥
+IsFraming {B} {H} at.Asked = ⊥
+IsFraming {B} {H} (at.Refused f) = ⊥
+IsFraming {B} {H} (at.Answering framer) = ⊤
+IsFraming {B} {H} (at.Writing keeps) = ⊥
+IsFraming {B} {H} (at.Handing h) = ⊥
+IsFraming {B} {H} at.Refusing = ⊥
+IsFraming {B} {H} (at.Taken h) = ⊥
+IsFraming {B} {H} (at.Speaking h) = ⊥
+IsFraming {B} {H} at.Parting = ⊥
+IsFraming {B} {H} (at.Over why) = ⊥
+
 -- a hijacker has the connection, and is to be told more
 abbrev pub IsHearing : {B H : Type 0} → At B H → Type 0
 IsHearing {B} {H} at.Reading = ⊥

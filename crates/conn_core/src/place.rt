@@ -1,6 +1,6 @@
 // Where a connection is between its steps.
 ghost use Rattle.std.specs.Prelude.{◌≡◌, ◌↔◌, IsTrue};
-ghost use Rattle.conn_core.specs.Place.{IsSaying, IsHanding, state_at};
+ghost use Rattle.conn_core.specs.Place.{IsSaying, IsHanding, IsFraming, state_at};
 
 use crate::state::State;
 use rack_types::{Body, Fault};
@@ -54,11 +54,34 @@ pub(crate) fn close<B: Body, H: Drop>(at: At<B, H>) {
     }
 }
 
-// Goes to another place, and closes a reply that was under way.
+// Goes to another place, and closes a reply that was under way. That there is none is told apart first, since what
+// was there is then not moved.
 pub(crate) fn put<B: Body, H: Drop>(at: &mut At<B, H>, new: At<B, H>)
     ensures { at.new ≡ new }
 {
-    close(mem::replace(at, new));
+    match at {
+        At::Answering(_) => close(mem::replace(at, new)),
+        _ => let_go(mem::replace(at, new)),
+    }
+}
+
+// Lets a place go at which no reply is under way.
+fn let_go<B: Body, H: Drop>(at: At<B, H>)
+    requires { ¬ (IsFraming at) }
+{
+    match at {
+        At::Answering(_) => unreachable!(),
+        At::Reading
+        | At::Asked
+        | At::Refused(_)
+        | At::Writing(_)
+        | At::Handing(_)
+        | At::Refusing
+        | At::Taken(_)
+        | At::Speaking(_)
+        | At::Parting
+        | At::Over(_) => {}
+    }
 }
 
 // The place as the owner sees it.

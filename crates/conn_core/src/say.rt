@@ -51,9 +51,8 @@ impl<B: Body, H: Hijack + Drop> Inside<B, H> {
             LinkWrite::Took(_) => {
                 self.moments.took = Some(now);
                 if self.ring.is_empty() {
-                    let at = mem::replace(&mut self.at, At::Refusing);
                     let at = complete(
-                        at,
+                        &mut self.at,
                         &mut self.intake,
                         &mut self.held,
                         &mut self.ring,

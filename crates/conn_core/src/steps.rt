@@ -20,6 +20,7 @@ use rack_env::refill;
 use rack_types::{Answer, Body, Env, Local, NoMemory, Peer, Runner};
 use reply_framing::{After, Ask, Filled, Framer};
 use std::alloc::Global;
+use std::mem;
 use talk_core::Why;
 
 // Feeds the bytes held to the intake, and goes on holding those behind a whole request.
@@ -201,31 +202,35 @@ fn written<B: Body, H: Drop>(framer: Framer<B, H>) -> At<B, H>
 }
 
 // Where the link took all of the ring: goes on with the bytes held, hands the connection over, or ends; or more of the
-// reply comes.
+// reply comes. The answer is the place that it goes to, which is to be put there. A reply that was sent whole isn't
+// moved.
 pub(crate) fn complete<B: Body, H: Hijack + Drop>(
-    at: At<B, H>,
+    at: &mut At<B, H>,
     intake: &mut Intake,
     held: &mut Held,
     ring: &mut HeapCircularBuffer<u8>,
     late: Option<Late>,
 ) -> At<B, H>
-    requires stands { HasRequest at intake.old }
+    requires stands { HasRequest at.old intake.old }
     requires empty { ring.old.items ≡ [] }
     requires room { ring.old.capacity ≡ 65536 }
-    ensures completes { CompletesTo late (record { says = H.says; ends = H.ends }) at intake.old held.old result intake.new held.new ring.new.items }
+    ensures completes { CompletesTo late (record { says = H.says; ends = H.ends }) at.old intake.old held.old result intake.new held.new ring.new.items }
     ensures room { ring.new.capacity ≡ ring.old.capacity }
 {
     match at {
-        At::Writing(keeps) => if keeps {
+        At::Writing(keeps) => if *keeps {
             intake.advance();
             feed_held(intake, held)
         } else {
             At::Over(Why::Closed)
         },
-        At::Handing(hijacker) => tell(hijacker, held, ring),
-        At::Refusing => At::Over(ended_by(late)),
-        At::Speaking(hijacker) => At::Taken(hijacker),
-        At::Parting => At::Over(Why::Hijacked),
-        at => at,
+        _ => match mem::replace(at, At::Refusing) {
+            At::Writing(_) => unreachable!(),
+            At::Handing(hijacker) => tell(hijacker, held, ring),
+            At::Refusing => At::Over(ended_by(late)),
+            At::Speaking(hijacker) => At::Taken(hijacker),
+            At::Parting => At::Over(Why::Hijacked),
+            at => at,
+        },
     }
 }

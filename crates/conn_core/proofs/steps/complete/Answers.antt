@@ -8,6 +8,6 @@ use Rattle.conn_core.proofs.steps.complete.Goals as goal
 pub returns-then-keeps-clause-completes : goal.returns-then-keeps-clause-completes
 returns-then-keeps-clause-completes g c =
     let V : Voice g.row.H.Denot = record { says = g.H.Hijack.says; ends = g.H.Hijack.ends } in
-    let is : c.args.at ≡ at.Writing true = c.in-Writing.is ∙ ap (λ (keeps : Bool). at.Writing keeps) c.if-keeps.true in
+    let is : c.args.at.now ≡ at.Writing true = c.in-Writing.is ∙ ap (λ (keeps : Bool). at.Writing keeps) c.if-keeps.true in
     subst (λ (a : At g.row.B.Denot g.row.H.Denot). CompletesTo c.args.late V a c.args.intake.now c.args.held.now c.feed_held.result c.feed_held.new.intake c.feed_held.new.held c.args.ring.now.items)
     (sym is) (c.advance.new.self, c.advance.ensures, c.feed_held.ensures, c.requires.empty)

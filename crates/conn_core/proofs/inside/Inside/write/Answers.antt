@@ -31,8 +31,7 @@ returns-then-is_empty-clause-holds g c = λ T h.
     let none : c.send.new.ring.items ≡ [] =
     nil_from_length c.send.new.ring.items (grind (arith, nat_tests, c.is_empty.ensures, c.if-is_empty.true)) in
     let completes : CompletesTo p.ending.late V p.at p.intake p.held c.complete-at.result c.complete-at.new.intake c.complete-at.new.held c.complete-at.new.ring.items =
-    subst (λ (a : At g.row.B.Denot g.row.H.Denot). CompletesTo p.ending.late V a p.intake p.held c.complete-at.result c.complete-at.new.intake c.complete-at.new.held
-    c.complete-at.new.ring.items) c.replace-at.ensures.value c.complete-at.ensures.completes in
+    c.complete-at.ensures.completes in
     stands_place c.complete-at.result c.put.new.at V T s' p.peer _ (sym c.put.ensures)
     (completes_hold V T s' p.peer (with_ring (kept p) c.send.new.ring.items) c.complete-at.new.intake c.complete-at.new.held p.ring.items
     c.complete-at.new.ring.items p.at c.complete-at.result none completes c.requires p.rests
@@ -51,8 +50,7 @@ returns-then-is_empty-clause-says g c =
     let ring = c.complete-at.new.ring.items in
     let completes : CompletesTo p.ending.late V p.at p.intake p.held c.put.new.at c.complete-at.new.intake left ring =
     subst (λ (b : At g.row.B.Denot g.row.H.Denot). CompletesTo p.ending.late V p.at p.intake p.held b c.complete-at.new.intake left ring) (sym c.put.ensures)
-    (subst (λ (a : At g.row.B.Denot g.row.H.Denot). CompletesTo p.ending.late V a p.intake p.held c.complete-at.result c.complete-at.new.intake left ring)
-    c.replace-at.ensures.value c.complete-at.ensures.completes) in
+    c.complete-at.ensures.completes in
     let shown : SaidShown p.ending.late p.at c.put.new.at p.ring.items ring p.calls s s' =
     said_whole p.ending.late V p.at c.put.new.at p.ring.items ring p.calls s s' p.intake c.complete-at.new.intake p.held left p.ending completes c.requires p.rests
     c.in-Took.ensures.keeps.over in
@@ -186,8 +184,7 @@ returns-then-is_empty-clause-once g c =
     let ring = c.complete-at.new.ring.items in
     let completes : CompletesTo p.ending.late V p.at p.intake p.held c.put.new.at c.complete-at.new.intake left ring =
     subst (λ (b : At g.row.B.Denot g.row.H.Denot). CompletesTo p.ending.late V p.at p.intake p.held b c.complete-at.new.intake left ring) (sym c.put.ensures)
-    (subst (λ (a : At g.row.B.Denot g.row.H.Denot). CompletesTo p.ending.late V a p.intake p.held c.complete-at.result c.complete-at.new.intake left ring)
-    c.replace-at.ensures.value c.complete-at.ensures.completes) in (
+    c.complete-at.ensures.completes in (
       write.Took n,
       refl,
       wrote_once (write.Took n) _ _ s s' p.ring.items front e.writes e.keeps e.ahead (record { peer = refl; local = refl; lives = refl; taken = refl })
@@ -287,8 +284,7 @@ invariant_of-self g c =
     let ring = c.complete-at.new.ring.items in
     let completes : CompletesTo p.ending.late V p.at p.intake p.held c.put.new.at c.complete-at.new.intake left ring =
     subst (λ (b : At g.row.B.Denot g.row.H.Denot). CompletesTo p.ending.late V p.at p.intake p.held b c.complete-at.new.intake left ring) (sym c.put.ensures)
-    (subst (λ (a : At g.row.B.Denot g.row.H.Denot). CompletesTo p.ending.late V a p.intake p.held c.complete-at.result c.complete-at.new.intake left ring)
-    c.replace-at.ensures.value c.complete-at.ensures.completes) in
+    c.complete-at.ensures.completes in
     record {
       room = c.complete-at.ensures.room ∙ c.send.ensures.room ∙ p.room;
       rests = completes_rest V p.at c.put.new.at p.intake c.complete-at.new.intake p.held left p.ring.items ring p.calls p.ending completes c.requires p.rests;
