@@ -21,7 +21,7 @@ const END: u8 = 4;
 ///
 /// - Echo says each byte again, and goes on.
 /// - Upper says each byte again, a to z as A to Z, and ends before the first byte 4: nothing is said
-///   to that byte or to any behind it.
+///   to that byte or to any behind it in that piece.
 ///
 /// Neither says anything at the end. What is said to a piece takes memory for as many bytes as are
 /// said; an end takes none.
