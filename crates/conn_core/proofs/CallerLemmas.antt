@@ -23,7 +23,7 @@ use Rattle.conn_core.specs.Shown.{Shown, Moved, shown, link_of, why_at}
 use Rattle.conn_core.proofs.ShownLemmas.{counted_sum}
 use Rattle.conn_core.proofs.ConnLemmas.{live_part}
 use Rattle.conn_core.proofs.MovedLemmas.{moved_same}
-use Rattle.conn_core.proofs.TurnLemmas.{no_why_at}
+use Rattle.conn_core.proofs.WhyLemmas.{no_why_at}
 pub use Rattle.conn_core.proofs.ConnLemmas.{Part}
 pub use Rattle.conn_core.proofs.MovedLemmas.{moved_then, ends_then}
 

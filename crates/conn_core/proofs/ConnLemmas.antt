@@ -21,7 +21,7 @@ use Rattle.talk_core.specs.Ended.{Shows, AreLives, AreEndedLives, IsEnded, Stand
 use Rattle.talk_core.specs.Stands.{Word, Stands, silent, replies, refuses, times_out, hands_over, Partly}
 use Rattle.talk_core.specs.Tail.{Voice}
 use Rattle.talk_core.specs.Teller.{Stack, Stacks, Teller, AgreesBelow, tell, last_phase, reply_of, ask_of, is_last}
-use Rattle.talk_core.proofs.CallerLemmas.{stands_new, one_phase, closes_none, closing_agrees, agrees_same, agrees_less}
+use Rattle.talk_core.proofs.CallerLemmas.{failure_ends, stands_new, one_phase, closes_none, closing_agrees, agrees_same, agrees_less}
 use Rattle.conn_core.specs.declared.inside.Inside.{Inside}
 use Rattle.conn_core.specs.declared.moments.Ending.{Ending}
 use Rattle.conn_core.specs.declared.moments.Late.{Late}
@@ -76,9 +76,9 @@ pub fresh_lives : {B H : Type 0} {g : Ghosts B} (peer : List ℕ) (local : Local
 fresh_lives {B} {H} {g} peer local phase now p f = subst AreLives (sym f.lives_are) refl
 
 -- the lives of one that ended
-ended_lives : (lives : List Life) (ended : Why) (calls : ℕ) → AreLives lives → AreEndedLives lives ended calls
-ended_lives [] ended calls h = absurd h
-ended_lives (life ∷ lives) ended calls h = h
+ended_lives : (lives : List Life) (ended : Why) (p : Past) → AreLives lives → AreEndedLives lives ended p
+ended_lives [] ended p h = absurd h
+ended_lives (life ∷ lives) ended p h = h
 
 -- an end whose word is named is an end
 plain_ends : {H : Type 0} (m : Ending) (ended : Why) (V : Voice H) (T : Teller H) (p : Past) → EndsPlainly m ended V T p → EndsBy ended V T p
@@ -88,7 +88,7 @@ plain_ends {H} m (why.Idle by) V T p e = e
 plain_ends {H} m (why.TimedOut since moment) V T p e = e
 plain_ends {H} m (why.Stalled since moment) V T p e = (e.0, record { word = e.1.word; partly = e.1.partly }, e.2, e.3)
 plain_ends {H} m (why.Unread level) V T p e = e
-plain_ends {H} m why.ReadFailed V T p e = e
+plain_ends {H} m why.ReadFailed V T p e = failure_ends V T p e
 plain_ends {H} m why.WriteFailed V T p e = (e.0, (e.1.0, record { word = e.1.1.word; partly = e.1.1.partly }, e.1.2))
 plain_ends {H} m (why.Halted level) V T p e = (e.0, (e.1.0, record { word = e.1.1.word; partly = e.1.1.partly }))
 plain_ends {H} m why.NoMemory V T p e = (e.0, record { word = e.1.word; partly = e.1.partly })
@@ -106,7 +106,7 @@ end_at {L} {B} {H} {g} seen V S number link p ended is lives h =
       sent = h.sent;
       over = h.over;
       shows = h.shows;
-      lives = ended_lives p.lives.items ended p.calls lives;
+      lives = ended_lives p.lives.items ended (past (seen link) (kept p) h.given h.sent h.over) lives;
       ends = plain_ends p.ending ended V T (past (seen link) (kept p) h.given h.sent h.over)
           (subst (λ (a : At B H). HoldsAt a V T (seen link) h.over h.given h.sent (kept p)) is h.at);
     }

@@ -20,7 +20,8 @@ use Rattle.conn_core.specs.Place.{IsSaying, IsHearing, state_at}
 use Rattle.conn_core.specs.Shown.{Shown, Moved}
 use Rattle.conn_core.proofs.MovingLemmas.{FlushMade}
 use Rattle.conn_core.proofs.MovedLemmas.{moved_same, moved_then, ends_then, drains_same, drains_then}
-use Rattle.conn_core.proofs.TurnLemmas.{owing_live, IsBelow, says_rests}
+use Rattle.conn_core.proofs.WhyLemmas.{owing_live}
+use Rattle.conn_core.proofs.TurnLemmas.{IsBelow, says_rests}
 
 -- what a flush of so many writes did so far
 pub record Flushing (old new : Shown) (s s' : Seen) (writes : ℕ) : Type 0 where

@@ -11,11 +11,14 @@ pub mod FilledLemmas
 pub mod CompleteLemmas
 pub mod ShownLemmas
 pub mod MovedLemmas
+pub mod RingLemmas
+pub mod BegunLemmas
 pub mod KeepsLemmas
 pub mod MoveLemmas
 pub mod MovingLemmas
 pub mod ToldLemmas
 pub mod FedLemmas
+pub mod WhyLemmas
 pub mod TurnLemmas
 pub mod FlushLemmas
 pub mod SaidLemmas
@@ -23,5 +26,8 @@ pub mod SaysLemmas
 pub mod WorkLemmas
 pub mod ConnLemmas
 pub mod RetellLemmas
-pub mod OwnerLemmas
+pub mod UnreadLemmas
+pub mod TickLemmas
+pub mod DrainLemmas
+pub mod StandsLemmas
 pub mod CallerLemmas

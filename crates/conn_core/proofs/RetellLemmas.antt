@@ -11,7 +11,7 @@ use Rattle.talk_core.specs.declared.ended.Why.TheVariants as why
 use Rattle.talk_core.specs.Stands.{silent, replies, refuses, times_out, hands_over}
 use Rattle.talk_core.specs.Tail.{Voice}
 use Rattle.talk_core.specs.Teller.{Teller, AgreesBelow}
-use Rattle.talk_core.proofs.CallerLemmas.{stands_agrees, partly_agrees, whole_to_agrees, ends_agrees, agrees_same, agrees_trans, closes_for}
+use Rattle.talk_core.proofs.CallerLemmas.{stands_agrees, partly_agrees, whole_to_agrees, failure_agrees, ends_agrees, agrees_same, agrees_trans, closes_for}
 use Rattle.conn_core.specs.declared.inside.Inside.{Inside}
 use Rattle.conn_core.specs.declared.moments.Late.{Late}
 use Rattle.conn_core.specs.declared.place.At.{At}
@@ -54,10 +54,10 @@ module _ {H : Type 0} (V : Voice H) (T U : Teller H) (s : Seen) (over : Bool) (g
   here k r count = same k (omega (arith, count)) r
 
   ends_so : (w : Why) → EndsPlainly c.ending w V T (past s c given sent over) → EndsPlainly c.ending w V U (past s c given sent over)
-  ends_so why.Closed e = ends_agrees T U why.Closed V (past s c given sent over) same e
-  ends_so why.PeerEnd e = ends_agrees T U why.PeerEnd V (past s c given sent over) same e
-  ends_so (why.Idle by) e = ends_agrees T U (why.Idle by) V (past s c given sent over) same e
-  ends_so (why.TimedOut since moment) e = ends_agrees T U (why.TimedOut since moment) V (past s c given sent over) same e
+  ends_so why.Closed e = ends_agrees T U why.Closed V (past s c given sent over) (λ is. cc) same e
+  ends_so why.PeerEnd e = ends_agrees T U why.PeerEnd V (past s c given sent over) (λ is. cc) same e
+  ends_so (why.Idle by) e = ends_agrees T U (why.Idle by) V (past s c given sent over) (λ is. cc) same e
+  ends_so (why.TimedOut since moment) e = ends_agrees T U (why.TimedOut since moment) V (past s c given sent over) (λ is. cc) same e
   ends_so (why.Stalled since moment) e = (
     e.0,
     record {
@@ -68,8 +68,8 @@ module _ {H : Type 0} (V : Voice H) (T U : Teller H) (s : Seen) (over : Bool) (g
     e.2,
     e.3,
   )
-  ends_so (why.Unread level) e = ends_agrees T U (why.Unread level) V (past s c given sent over) same e
-  ends_so why.ReadFailed e = ends_agrees T U why.ReadFailed V (past s c given sent over) same e
+  ends_so (why.Unread level) e = ends_agrees T U (why.Unread level) V (past s c given sent over) (λ is. cc) same e
+  ends_so why.ReadFailed e = failure_agrees T U V (past s c given sent over) same e
   ends_so why.WriteFailed e = (
     e.0,
     (

@@ -42,43 +42,6 @@ use Rattle.conn_core.proofs.MovingLemmas.{full, TurnMade}
 use Rattle.conn_core.proofs.MovedLemmas.{counted_lists, moved_same, moved_by, moved_then, ends_then, drains_then, drains_same, drains_run}
 use Rattle.conn_core.proofs.PlaceLemmas.{unclosed, untimed}
 
--- a place that isn't Over names no why
-pub no_why : {B H : Type 0} (a : At B H) → state_at a ≢ state.Over → why_at a ≡ None
-no_why {B} {H} at.Reading h = refl
-no_why {B} {H} at.Asked h = refl
-no_why {B} {H} (at.Refused f) h = refl
-no_why {B} {H} (at.Answering f) h = refl
-no_why {B} {H} (at.Writing keeps) h = refl
-no_why {B} {H} (at.Handing x) h = refl
-no_why {B} {H} at.Refusing h = refl
-no_why {B} {H} (at.Taken x) h = refl
-no_why {B} {H} (at.Speaking x) h = refl
-no_why {B} {H} at.Parting h = refl
-no_why {B} {H} (at.Over w) h = absurd (h refl)
-
-pub no_why_at : {B H : Type 0} (a : At B H) (s : State) → state_at a ≡ s → s ≢ state.Over → why_at a ≡ None
-no_why_at {B} {H} a s e h = no_why a (λ over. h (sym e ∙ over))
-
--- so it is where bytes are owed
-saying_live : {B H : Type 0} (a : At B H) → IsSaying a → state_at a ≢ state.Over
-saying_live {B} {H} at.Reading is over = absurd is
-saying_live {B} {H} at.Asked is over = absurd is
-saying_live {B} {H} (at.Refused f) is over = absurd is
-saying_live {B} {H} (at.Answering f) is over = cc
-saying_live {B} {H} (at.Writing keeps) is over = cc
-saying_live {B} {H} (at.Handing h) is over = cc
-saying_live {B} {H} at.Refusing is over = cc
-saying_live {B} {H} (at.Taken h) is over = absurd is
-saying_live {B} {H} (at.Speaking h) is over = cc
-saying_live {B} {H} at.Parting is over = cc
-saying_live {B} {H} (at.Over w) is over = absurd is
-
-pub no_why_saying : {B H : Type 0} (a : At B H) → IsSaying a → why_at a ≡ None
-no_why_saying {B} {H} a is = no_why a (saying_live a is)
-
-pub owing_live : (n : Shown) → IsOwing n → n.state ≢ state.Over
-owing_live n owing over = elim owing [ inl x ↦ cc | inr x ↦ cc ]
-
 -- fewer than 10,000 replies were sent whole where it rests
 abbrev pub IsBelow : State → ℕ → Type 0
 IsBelow state.Reading n = n < 10000

@@ -1,6 +1,7 @@
 -- What a connection's owner does with it beside moving it on: it ends it, places it anew, tells it the time or a drain, or
 -- lends its link out.
 use Rattle.std.specs.Prelude.{◌≡◌, ◌≢◌, ℕ, ◌+◌, zero, suc, Bool, true, false, List, [], ◌∷◌, length, Option, None, Some, ◌⊎◌, ⊤}
+use Rattle.rack_types.specs.declared.fault.Fault.{Fault}
 use Rattle.rack_types.specs.declared.fault.Fault.TheVariants.{T1}
 use Rattle.rack_types.specs.Limits.{stock_limits}
 use Rattle.reply_framing.specs.declared.types.After.TheVariants.{Keep, Close}
@@ -11,7 +12,7 @@ use Rattle.talk_core.specs.declared.ended.Why.TheVariants as why
 use Rattle.talk_core.specs.Ended.{AreLives}
 use Rattle.rack_outside.specs.Link.{Seen, Tells}
 use Rattle.rack_types.specs.Request.{Parts}
-use Rattle.message_framing.specs.Request.{Wanting}
+use Rattle.message_framing.specs.Request.{Wanting, Refusal}
 use Rattle.talk_core.specs.Talk.{Asks}
 use Rattle.conn_core.specs.Rests.{BegunAs}
 use Rattle.conn_core.specs.declared.state.State.{State}
@@ -146,6 +147,17 @@ pub record StandsNext (s : Seen) (c : Shown) : Type 0 where
   pub asks : Asks given asked c.held
   pub next : length asked ≡ c.calls + 1
 
+-- where a refusal stands: all requests before it in the bytes that came were run, and what stands behind them is refused
+pub record RefusesNext (f : Fault) (s : Seen) (c : Shown) : Type 0 where
+  pub given : List ℕ
+  pub asked : List Parts
+  pub rest : List ℕ
+  pub given_is : Tells s.given given
+  pub asks : Asks given asked rest
+  pub all : c.calls ≡ length asked
+  pub refusal : Refusal rest f
+
 pub record BeginsRightly (s : Seen) (c : Shown) : Type 0 where
   pub reads : c.state ≡ state.Reading → ReadsOn s c
   pub stands : c.state ≡ state.Ready → c.fault ≡ None → StandsNext s c
+  pub refuses : (f : Fault) → c.state ≡ state.Ready → c.fault ≡ Some f → RefusesNext f s c

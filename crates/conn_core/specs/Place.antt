@@ -34,7 +34,7 @@ state_at {B} {H} (at.Speaking h) = state.Hijacked
 state_at {B} {H} at.Parting = state.Hijacked
 state_at {B} {H} (at.Over why) = state.Over
 
--- a framer holds the rest of a reply
+-- a framer is there
 abbrev pub IsFraming : {B H : Type 0} → At B H → Type 0
 IsFraming {B} {H} at.Reading = ⊥
 IsFraming {B} {H} at.Asked = ⊥

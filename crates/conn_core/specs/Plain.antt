@@ -1,5 +1,5 @@
 -- How a connection ended, with what was being said, where some of it is lacking: the reply that says that a request took
--- too long is said only where one was timed out.
+-- too long is said only where one was timed out, and where a read failed before all was said, that goes to a hijack.
 use Rattle.std.specs.Prelude.{◌≡◌, ◌≢◌, ℕ, ◌+◌, ◌<◌, ◌≤◌, Bool, true, List, [], ◌++◌, is_some}
 use Rattle.rack_types.specs.declared.peer.Local.{Local}
 use Rattle.rack_types.specs.Limits.{stock_limits}
@@ -7,7 +7,7 @@ use Rattle.rack_outside.specs.Link.{Seen}
 use Rattle.talk_core.specs.declared.ended.Ended.{Ended}
 use Rattle.talk_core.specs.declared.ended.Why.{Why}
 use Rattle.talk_core.specs.declared.ended.Why.TheVariants as why
-use Rattle.talk_core.specs.Ended.{Past, EndsBy, Shows, past_of, IsTimed, SentWholeTo, NeedsDrain}
+use Rattle.talk_core.specs.Ended.{Past, EndsBy, FailsReading, Shows, past_of, IsTimed, SentWholeTo, NeedsDrain}
 use Rattle.talk_core.specs.Stands.{Word, Partly}
 use Rattle.talk_core.specs.Tail.{Voice, tail_of, goes_on}
 use Rattle.talk_core.specs.Teller.{Stacks, Teller, tell}
@@ -37,7 +37,7 @@ EndsPlainly e (why.TimedOut since now) V T p = EndsBy (why.TimedOut since now) V
 EndsPlainly e (why.Stalled since now) V T p =
     (lacks : List ℕ) × LacksPlainly (is_some e.late) V T p lacks × (lacks ≢ []) × (since + stock_limits.write_ms ≤ now)
 EndsPlainly e (why.Unread level) V T p = EndsBy (why.Unread level) V T p
-EndsPlainly e why.ReadFailed V T p = EndsBy why.ReadFailed V T p
+EndsPlainly e why.ReadFailed V T p = FailsReading V T p
 EndsPlainly e why.WriteFailed V T p = (0 < p.failed_writes) × ((lacks : List ℕ) × LacksPlainly (is_some e.late) V T p lacks × (lacks ≢ []))
 EndsPlainly e (why.Halted level) V T p = (level ≡ 2) × ((lacks : List ℕ) × LacksPlainly (is_some e.late) V T p lacks)
 EndsPlainly e why.NoMemory V T p = (lacks : List ℕ) × LacksPlainly (is_some e.late) V T p lacks

@@ -152,6 +152,34 @@ IsWritten {B} {H} f (at.Speaking h) = ⊥
 IsWritten {B} {H} f at.Parting = ⊥
 IsWritten {B} {H} f (at.Over ended) = ⊥
 
+-- the same of the framer at a place
+abbrev pub Leaves : {B H : Type 0} → At B H → At B H → Type 0
+Leaves {B} {H} at.Reading new = ⊥
+Leaves {B} {H} at.Asked new = ⊥
+Leaves {B} {H} (at.Refused fault) new = ⊥
+Leaves {B} {H} (at.Answering f) new = IsWritten f new
+Leaves {B} {H} (at.Writing keeps) new = ⊥
+Leaves {B} {H} (at.Handing h) new = ⊥
+Leaves {B} {H} at.Refusing new = ⊥
+Leaves {B} {H} (at.Taken h) new = ⊥
+Leaves {B} {H} (at.Speaking h) new = ⊥
+Leaves {B} {H} at.Parting new = ⊥
+Leaves {B} {H} (at.Over ended) new = ⊥
+
+-- a framer hands the connection over
+abbrev pub IsHanded : {B H : Type 0} → At B H → Type 0
+IsHanded {B} {H} at.Reading = ⊥
+IsHanded {B} {H} at.Asked = ⊥
+IsHanded {B} {H} (at.Refused fault) = ⊥
+IsHanded {B} {H} (at.Answering f) = f.after ≡ Hijack
+IsHanded {B} {H} (at.Writing keeps) = ⊥
+IsHanded {B} {H} (at.Handing h) = ⊥
+IsHanded {B} {H} at.Refusing = ⊥
+IsHanded {B} {H} (at.Taken h) = ⊥
+IsHanded {B} {H} (at.Speaking h) = ⊥
+IsHanded {B} {H} at.Parting = ⊥
+IsHanded {B} {H} (at.Over ended) = ⊥
+
 -- the ring was filled from what was left of a reply, and is full; or all of it was appended; or memory was refused
 abbrev pub FillsFrom : {B H : Type 0} → Coming H → Buffer ℕ → At B H → Buffer ℕ → Type 0
 FillsFrom {B} {H} f before at.Reading after = ⊥

@@ -272,7 +272,8 @@ impl<L: Link, B: Body, H: Hijack + Drop> Conn<L, B, H> {
 
     /// Laws: while it is carried that it stands for its talk, a connection that isn't over does. Where more of a
     /// request is to be read, all requests in the bytes that came were run, and a moment is kept exactly where one is
-    /// begun behind them; and where a request stands, the bytes held are all that stand behind it.
+    /// begun behind them; where a request stands, those before it were run, and the bytes held are all that stand behind
+    /// it; and where a refusal stands, all before it were run.
     pub fn stands(&self)
         ensures talk { (S : Stacks H) → (shown self.now).state ≢ State.Over → Holds L.seen (record { says = H.says; ends = H.ends }) S self.now
             → StandsForTalk (L.seen (link_of self.now)) (record { says = H.says; ends = H.ends }) S (shown self.now).local (shown self.now).lives (shown self.now).calls

@@ -18,8 +18,6 @@ mod send;
 mod sending;
 mod state;
 mod steps;
-#[cfg(test)]
-mod tests;
 mod turn;
 
 pub use conn::Conn;

@@ -19,7 +19,6 @@ use crate::steps::{begins, complete, fill};
 use hijack_core::Hijack;
 use rack_outside::{Link, LinkWrite};
 use rack_types::Body;
-use std::mem;
 use talk_core::Why;
 
 impl<B: Body, H: Hijack + Drop> Inside<B, H> {
@@ -31,10 +30,9 @@ impl<B: Body, H: Hijack + Drop> Inside<B, H> {
         ensures some { IsTrue result → IsFilledAt self.new.at self.new.ring.items }
     {
         let empty = self.ring.is_empty();
-        let at = fill(mem::replace(&mut self.at, At::Refusing), &mut self.ring);
+        fill(&mut self.at, &mut self.ring);
         let _few = self.ring.len();
-        let goes_on = is_saying(&at);
-        put(&mut self.at, at);
+        let goes_on = is_saying(&self.at);
         self.moments.filled = filled(goes_on & empty, now, self.moments.filled);
         goes_on
     }

@@ -7,12 +7,13 @@ ghost use Rattle.rack_env.specs.Environment.{environment};
 ghost use Rattle.message_framing.specs.Intake.{Fed, StandsWhole};
 ghost use Rattle.message_framing.specs.Request.{IsRequest};
 ghost use Rattle.talk_core.specs.Teller.{ask_of};
-ghost use Rattle.conn_core.specs.Steps.{FeedsHeld, BeginsAs, TakesAll, BeginsTaken, BeginsAt, IsWritten, FillsFrom, FillsTo, HasRequest, CompletesTo};
+ghost use Rattle.conn_core.specs.Place.{IsFraming};
+ghost use Rattle.conn_core.specs.Steps.{FeedsHeld, BeginsAs, TakesAll, BeginsTaken, BeginsAt, Leaves, IsHanded, FillsTo, HasRequest, CompletesTo};
 
 use crate::held::Held;
 use crate::hijack::tell;
 use crate::moments::{Late, ended_by};
-use crate::place::At;
+use crate::place::{At, put};
 use circular_buffer::HeapCircularBuffer;
 use hijack_core::Hijack;
 use message_framing::{Feed, Intake};
@@ -156,48 +157,60 @@ fn begin_taken<B: Body, H: Drop>(framer: Framer<B, H>) -> At<B, H>
     }
 }
 
-// Fills the ring from the reply that is under way.
-pub(crate) fn fill<B: Body, H: Drop>(at: At<B, H>, ring: &mut HeapCircularBuffer<u8>) -> At<B, H>
-    ensures { FillsTo at ring.old result ring.new }
+// Fills the ring from the reply that is under way, if there is one. Behind its last byte goes to what becomes of the
+// connection then; a reply that remains isn't moved.
+pub(crate) fn fill<B: Body, H: Drop>(at: &mut At<B, H>, ring: &mut HeapCircularBuffer<u8>)
+    ensures { FillsTo at.old ring.old at.new ring.new }
 {
     match at {
-        At::Answering(framer) => fill_from(framer, ring),
-        at => at,
+        At::Answering(framer) => match framer.fill(ring) {
+            Ok(Filled::Full) => {}
+            Ok(Filled::Done) => leave(at),
+            Ok(Filled::Broke(_)) => leave(at),
+            Err(_) => put(at, At::Over(Why::NoMemory)),
+        },
+        At::Reading
+        | At::Asked
+        | At::Refused(_)
+        | At::Writing(_)
+        | At::Handing(_)
+        | At::Refusing
+        | At::Taken(_)
+        | At::Speaking(_)
+        | At::Parting
+        | At::Over(_) => {}
     }
 }
 
-// The same of this framer.
-fn fill_from<B: Body, H: Drop>(
-    mut framer: Framer<B, H>,
-    ring: &mut HeapCircularBuffer<u8>,
-) -> At<B, H>
-    ensures { FillsFrom framer ring.old result ring.new }
+// Leaves a framer that has no more to append: the connection goes on or closes, or a hijacker takes it over.
+fn leave<B: Body, H: Drop>(at: &mut At<B, H>)
+    requires { IsFraming at.old }
+    ensures { Leaves at.old at.new }
 {
-    match framer.fill(ring) {
-        Ok(filled) => match filled {
-            Filled::Full => At::Answering(framer),
-            Filled::Done => written(framer),
-            Filled::Broke(_) => written(framer),
+    match at {
+        At::Answering(framer) => match framer.after() {
+            After::Keep => put(at, At::Writing(true)),
+            After::Close => put(at, At::Writing(false)),
+            After::Hijack => {
+                let new = hand(mem::replace(at, At::Refusing));
+                put(at, new);
+            }
         },
-        Err(_) => {
-            let _ = framer.finish();
-            At::Over(Why::NoMemory)
-        }
+        _ => unreachable!(),
     }
 }
 
-// What is behind a framer that has no more to append: the connection goes on or closes, or a hijacker takes it over.
-fn written<B: Body, H: Drop>(framer: Framer<B, H>) -> At<B, H>
-    ensures { IsWritten framer result }
+// The place of a connection that a framer hands to its hijacker.
+fn hand<B: Body, H: Drop>(at: At<B, H>) -> At<B, H>
+    requires { IsHanded at }
+    ensures { Leaves at result }
 {
-    let after = framer.after();
-    match framer.finish() {
-        Some(hijacker) => At::Handing(hijacker),
-        None => match after {
-            After::Keep => At::Writing(true),
-            After::Close => At::Writing(false),
-            After::Hijack => unreachable!(),
+    match at {
+        At::Answering(framer) => match framer.finish() {
+            Some(hijacker) => At::Handing(hijacker),
+            None => unreachable!(),
         },
+        _ => unreachable!(),
     }
 }
 

@@ -1,5 +1,5 @@
-//! What a connection does at each moment of its life, as tables over links in memory: when each limit of time passes,
-//! and what draining, halting and placing leave of it. It has tests alone.
+//! What a connection does at each moment of its life, as tables over links in memory: what it answers, when each limit
+//! of time passes, and what draining, halting and placing leave of it. It has tests alone.
 #![tactic(auto)]
 
 #[cfg(test)]
@@ -30,6 +30,8 @@ mod peers;
 mod places;
 #[cfg(test)]
 mod rows;
+#[cfg(test)]
+mod served;
 #[cfg(test)]
 mod stalled;
 #[cfg(test)]

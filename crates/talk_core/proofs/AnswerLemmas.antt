@@ -1,13 +1,14 @@
 -- What answers the bytes, whole: it is one, and the end of a connection tells it.
-use Rattle.std.proofs.Common.{◌≡◌, ℕ, Bool, true, false, if◌then◌else◌, List, [], ◌∷◌, ◌++◌, refl, sym, ap, subst, ◌∙◌, arith}
+use Rattle.std.proofs.Common.{◌≡◌, ℕ, Bool, true, false, if◌then◌else◌, List, [], ◌∷◌, ◌++◌, refl, sym, ap, subst, ◌∙◌, arith, inl, inr, ⊎_elim}
 use Rattle.std.proofs.lemmas.Bool.{false≢true}
 use Rattle.std.proofs.lemmas.List.{append-nil}
 use Rattle.hijack_core.specs.declared.hijack.Said.{Said}
 use Rattle.rack_types.specs.Request.{Parts}
 use Rattle.message_framing.proofs.CallerLemmas.{refusal_stays}
 use Rattle.reply_framing.specs.declared.types.After.TheVariants.{Hijack}
+use Rattle.talk_core.specs.declared.ended.Why.TheVariants as why
 use Rattle.talk_core.specs.Answer.{IsBehind, IsAnswer, IsHandedOver, EndsItself, IsClosedOn}
-use Rattle.talk_core.specs.Ended.{Past, SentWhole, SentWholeTo, IsClosed, IsUntaken, NeedsDrain, IsTimed}
+use Rattle.talk_core.specs.Ended.{Past, SentWhole, SentWholeTo, Lacks, LacksToHijack, FailsReading, EndsBy, IsClosed, IsUntaken, NeedsDrain, IsTimed}
 use Rattle.talk_core.specs.Laws.{HandsTo}
 use Rattle.talk_core.specs.Stands.{Word, silent, replies, refuses, times_out, hands_over, Stands, IsHijack}
 use Rattle.talk_core.specs.Tail.{Voice, tail_of, goes_on}
@@ -249,3 +250,14 @@ module _ {H : Type 0} (V : Voice H) (T : Teller H) (over : Bool) (given sent : L
   stands_more (hands_over r x) rest lacks more timed longer h =
       let on : (longer : List ℕ) × (tail_of V x (rest ++ more) over ≡ tail_of V x rest over ++ longer) = longer x in
       (lacks ++ on.0, goes_further V T over over given sent k r x rest lacks more on.0 h on.1)
+
+-- a read that failed before all was said is an end where a hijack stands
+pub failure_ends : {H : Type 0} (V : Voice H) (T : Teller H) (p : Past) → FailsReading V T p → EndsBy why.ReadFailed V T p
+failure_ends {H} V T p e = (e.0, ⊎_elim (λ w. inl w) (λ l. inr (taken l)) e.1)
+  where
+    taken : LacksToHijack V T p → (lacks : List ℕ) × Lacks V T p lacks × IsHandedOver T p.given
+    taken l = (
+      l.lacks,
+      record { word = l.word; partly = l.partly },
+      hijack_stops V T p.over p.given p.sent l.partly.k l.word l.partly.rest l.lacks l.partly.stands l.taken,
+    )

@@ -4,7 +4,7 @@ pub use Rattle.talk_core.proofs.StandsLemmas.{stands_new, silent_over, stands_as
 pub use Rattle.talk_core.proofs.HijackLemmas.{tail_behind, tail_so_far, tail_at_end, stands_heard, stands_over}
 pub use Rattle.talk_core.proofs.LastLemmas.{reply_keeps, tell_keeps, tell_never_keeps, not_last_below, is_last_none}
 pub use Rattle.talk_core.proofs.EndedLemmas.{closes_for, closes_none, whole_closed, whole_refused, whole_wanting, whole_timed, whole_handed, lacks_of}
-pub use Rattle.talk_core.proofs.RetellLemmas.{replies_agree, keep_agrees, stands_agrees, partly_agrees, whole_agrees, whole_to_agrees, ends_agrees, closing_agrees}
+pub use Rattle.talk_core.proofs.RetellLemmas.{replies_agree, keep_agrees, stands_agrees, partly_agrees, whole_agrees, whole_to_agrees, failure_agrees, ends_agrees, closing_agrees}
 pub use Rattle.talk_core.proofs.CompareLemmas.{SameFront, front_unique, GoesFurther, GoesLess, asks_compare, asked_begins, answered_begins, stop_unique, one_talk}
 pub use Rattle.talk_core.proofs.LawLemmas.{stays, keep_nth, partly_stands}
 pub use Rattle.talk_core.proofs.ChunkedLemmas.{read_again}
@@ -13,4 +13,4 @@ pub use Rattle.talk_core.proofs.RunLemmas.{told_at, agrees_same, agrees_less, ag
 pub use Rattle.talk_core.proofs.ShowsLemmas.{tells_appended, tells_marked, shows_given, shows_unread, shows_over, shows_sent, shows_unsent, shows_bytes, shows_not_yet, shows_end, shows_failed, shows_took, shows_waits, shows_broken, shows_no_memory}
 pub use Rattle.talk_core.proofs.CountLemmas.{counted_next, counted_more, lacks_some, taken_more}
 pub use Rattle.talk_core.proofs.TextLemmas.{begins_answer, begins_less}
-pub use Rattle.talk_core.proofs.AnswerLemmas.{one_answer, undrained, answer_whole, answer_closed, closed_on, answer_handed, answer_stopped, stopped_on, hijack_stops, hijack_untimed, stands_more}
+pub use Rattle.talk_core.proofs.AnswerLemmas.{one_answer, undrained, answer_whole, answer_closed, closed_on, answer_handed, answer_stopped, stopped_on, hijack_stops, hijack_untimed, failure_ends, stands_more}

@@ -13,6 +13,7 @@ use Rattle.rack_outside.specs.Link.{Seen}
 use Rattle.talk_core.specs.declared.ended.Ended.{Ended}
 use Rattle.talk_core.specs.declared.ended.IdleBy.TheVariants.{Clock, Drain}
 use Rattle.talk_core.specs.declared.ended.Why.TheVariants as why
+use Rattle.talk_core.specs.Answer.{IsHandedOver}
 use Rattle.talk_core.specs.Ended.{Past, SentWhole, SentWholeTo, Lacks, IsClosed, IsUntaken, past_of, NeedsDrain, EndsBy, AreEndedLives, IsTimed, WhyByDrain}
 use Rattle.talk_core.specs.Stands.{Word, silent, replies, refuses, times_out, hands_over, Stands}
 use Rattle.talk_core.specs.Tail.{Voice}
@@ -245,20 +246,29 @@ drain_untold e = omega (arith, e)
 no_drain_needed : NeedsDrain false 0
 no_drain_needed = tt
 
--- one that could not be opened has no life, and ran nothing; all others have one life
-not_opened : AreEndedLives [] why.NoMemory 0
-not_opened = refl
+-- one that could not be opened has no life, and nothing behind it; all others have one life
+not_opened : AreEndedLives [] why.NoMemory (had [] [] false 0 0)
+not_opened = (refl, refl, refl, refl)
 
-ran_unopened : ¬ (AreEndedLives [] why.NoMemory 1)
-ran_unopened e = omega (arith, e)
+given_unopened : ¬ (AreEndedLives [] why.NoMemory (had (71 ∷ []) [] false 0 0))
+given_unopened e = omega (arith, ap length e.0)
 
-closed_unopened : ¬ (AreEndedLives [] why.Closed 0)
+said_unopened : ¬ (AreEndedLives [] why.NoMemory (had [] (72 ∷ []) false 0 0))
+said_unopened e = omega (arith, ap length e.1)
+
+ran_unopened : ¬ (AreEndedLives [] why.NoMemory (record (had [] [] false 0 0) { calls = 1 }))
+ran_unopened e = omega (arith, e.2)
+
+drained_unopened : ¬ (AreEndedLives [] why.NoMemory (record (had [] [] false 0 0) { closing = Some 0 }))
+drained_unopened e = cc
+
+closed_unopened : ¬ (AreEndedLives [] why.Closed (had [] [] false 0 0))
 closed_unopened e = e
 
-one_life : AreEndedLives (record { first = 0; phase = 3 } ∷ []) why.NoMemory 5
+one_life : AreEndedLives (record { first = 0; phase = 3 } ∷ []) why.NoMemory (had [] [] false 0 0)
 one_life = refl
 
-late_life : ¬ (AreEndedLives (record { first = 1; phase = 3 } ∷ []) why.Closed 5)
+late_life : ¬ (AreEndedLives (record { first = 1; phase = 3 } ∷ []) why.Closed (had [] [] false 0 0))
 late_life e = omega (arith, e)
 
 -- the 408 is said to a connection that was timed out
@@ -324,32 +334,65 @@ hijacked_by_drain front r is = (true, 1 ∷ 2 ∷ [], 0 ∷ [], taken front r (0
 hijacked_by_itself : (given sent : List ℕ) (told : ℕ) → ¬ (WhyByDrain why.Hijacked on hands (ran given sent true told))
 hijacked_by_itself given sent told e = false≢true e.4
 
--- ReadFailed: also where what the hijacker says lacks, and never as a talk that was said whole up to a hijack
+-- ReadFailed: where the talk stops at a hijack nothing needs to be whole, and it is never a talk that was said whole
+handed : (front : List ℕ) (r : Parts) → IsRequest front r → IsHandedOver hands (front ++ 1 ∷ 2 ∷ [])
+handed front r is = (
+  r ∷ [],
+  1 ∷ 2 ∷ [],
+  record {
+    asks = (front, 1 ∷ 2 ∷ [], refl, is, refl);
+    stops = record { front = []; last = r; asked_is = refl; keeps = tt; fate = refl };
+  },
+)
+
 read_failed_behind_a_hijack : (front : List ℕ) (r : Parts) → IsRequest front r
     → EndsBy why.ReadFailed on hands (record (ran (front ++ 1 ∷ 2 ∷ []) (0 ∷ 1 ∷ []) false 0) { failed_reads = 1 })
 read_failed_behind_a_hijack front r is = (
   omega arith,
-  inr (record {
-    word = hands_over r true;
-    lacks = 2 ∷ [];
-    partly = record {
-      k = 0;
-      rest = 1 ∷ 2 ∷ [];
-      calls_is = refl;
-      stands = record {
-        whole = [];
-        count = refl;
-        asks = (front, 1 ∷ 2 ∷ [], refl, is, refl);
-        keeps = tt;
-        part = 0 ∷ 1 ∷ [];
-        sent_is = refl;
-        part_is = refl;
-        fits = (refl, refl);
+  inr (
+    2 ∷ [],
+    record {
+      word = hands_over r true;
+      partly = record {
+        k = 0;
+        rest = 1 ∷ 2 ∷ [];
+        calls_is = refl;
+        stands = record {
+          whole = [];
+          count = refl;
+          asks = (front, 1 ∷ 2 ∷ [], refl, is, refl);
+          keeps = tt;
+          part = 0 ∷ 1 ∷ [];
+          sent_is = refl;
+          part_is = refl;
+          fits = (refl, refl);
+        };
+        closes = tt;
       };
-      closes = tt;
-    };
-    taken = tt;
-  }),
+    },
+    handed front r is,
+  ),
+)
+
+-- also where the request was not run yet
+read_failed_before_a_hijack : (front : List ℕ) (r : Parts) → IsRequest front r
+    → EndsBy why.ReadFailed on hands (had (front ++ 1 ∷ 2 ∷ []) [] false 1 0)
+read_failed_before_a_hijack front r is = (
+  omega arith,
+  inr (
+    [],
+    record {
+      word = silent;
+      partly = record {
+        k = 0;
+        rest = front ++ 1 ∷ 2 ∷ [];
+        calls_is = refl;
+        stands = record { whole = []; count = refl; asks = refl; keeps = tt; part = []; sent_is = refl; part_is = refl; fits = tt };
+        closes = tt;
+      };
+    },
+    handed front r is,
+  ),
 )
 
 hijack_is_taken : ¬ (IsUntaken hijacked)

@@ -1,5 +1,5 @@
 -- What stands speaks only of the replies to requests that were run: tellers that agree on these tell the same.
-use Rattle.std.proofs.Common.{◌≡◌, ℕ, suc, ◌+◌, ◌<◌, Bool, List, [], ◌∷◌, ◌++◌, length, refl, ap, subst, ◌∙◌, arith, length-append, Option, Some, None, inl, inr, ⊎_elim}
+use Rattle.std.proofs.Common.{◌≡◌, ◌≢◌, ℕ, suc, ◌+◌, ◌<◌, Bool, List, [], ◌∷◌, ◌++◌, length, refl, ap, subst, ◌∙◌, arith, length-append, Option, Some, None, inl, inr, ⊎_elim}
 use Rattle.std.proofs.lemmas.Bool.Decides.{nat_tests}
 use Rattle.rack_types.specs.declared.peer.Local.{Local}
 use Rattle.rack_types.specs.Request.{Parts}
@@ -14,7 +14,7 @@ use Rattle.talk_core.specs.Teller.{Stacks, Teller, AgreesBelow, fates_of, is_las
 use Rattle.talk_core.specs.Talk.{AllKeep, EndsAs, Stop, wanting, refused, closed, hijacked, StopsAs, replies_to, last_word}
 use Rattle.talk_core.specs.Tail.{Voice, tail_of}
 use Rattle.talk_core.specs.Stands.{Word, silent, replies, refuses, times_out, hands_over, asked_by, text_by, Fits, Stands, IsHijack, Partly}
-use Rattle.talk_core.specs.Ended.{Past, SentWhole, SentWholeTo, Lacks, LacksToHijack, EndsBy}
+use Rattle.talk_core.specs.Ended.{Past, SentWhole, SentWholeTo, Lacks, LacksToHijack, FailsReading, EndsBy}
 use Rattle.talk_core.proofs.EndedLemmas.{closes_for}
 
 module _ {H : Type 0} (T U : Teller H) where
@@ -132,22 +132,26 @@ module _ {H : Type 0} (T U : Teller H) where
     taken = hijack_agrees h.partly.k h.word (λ i lt r. same i (omega (arith, h.partly.calls_is)) r) h.taken;
   }
 
-  -- an end is the same by any replies that are the same as far as requests were run
-  pub ends_agrees : (w : Why) (V : Voice H) (p : Past) → AgreesBelow p.calls T U → EndsBy w V T p → EndsBy w V U p
-  ends_agrees why.Closed V p same e = (e.0, e.1, e.2, whole_agrees p e.0 e.1 p.sent same e.3)
-  ends_agrees why.PeerEnd V p same e = (e.0, whole_agrees p wanting e.0 p.sent same e.1, e.2)
-  ends_agrees (why.Idle by) V p same e = (e.0, whole_agrees p wanting e.0 p.sent same e.1, e.2, e.3)
-  ends_agrees (why.TimedOut since now) V p same e = (e.0, e.1, whole_agrees p wanting e.0 e.1 same e.2, e.3, e.4, e.5)
-  ends_agrees (why.Stalled since now) V p same e = (e.0, lacks_agrees V p e.0 same e.1, e.2, e.3)
-  ends_agrees (why.Unread level) V p same e = e
-  ends_agrees why.ReadFailed V p same e = (
+  pub failure_agrees : (V : Voice H) (p : Past) → AgreesBelow p.calls T U → FailsReading V T p → FailsReading V U p
+  failure_agrees V p same e = (
     e.0,
     ⊎_elim (λ w. inl (w.0, w.1, w.2, whole_agrees p w.0 w.1 p.sent same w.3)) (λ l. inr (lacks_to_agrees V p same l)) e.1,
   )
-  ends_agrees why.WriteFailed V p same e = (e.0, (e.1.0, lacks_agrees V p e.1.0 same e.1.1, e.1.2))
-  ends_agrees (why.Halted level) V p same e = (e.0, (e.1.0, lacks_agrees V p e.1.0 same e.1.1))
-  ends_agrees why.NoMemory V p same e = (e.0, lacks_agrees V p e.0 same e.1)
-  ends_agrees why.Hijacked V p same e = (e.0, e.1, e.2, whole_to_agrees p e.0 e.1 e.2 same e.3, e.4, e.5)
+
+  -- an end is the same by any replies that are the same as far as requests were run; but for a read that failed, which
+  -- tells of the whole talk
+  pub ends_agrees : (w : Why) (V : Voice H) (p : Past) → w ≢ why.ReadFailed → AgreesBelow p.calls T U → EndsBy w V T p → EndsBy w V U p
+  ends_agrees why.Closed V p n same e = (e.0, e.1, e.2, whole_agrees p e.0 e.1 p.sent same e.3)
+  ends_agrees why.PeerEnd V p n same e = (e.0, whole_agrees p wanting e.0 p.sent same e.1, e.2)
+  ends_agrees (why.Idle by) V p n same e = (e.0, whole_agrees p wanting e.0 p.sent same e.1, e.2, e.3)
+  ends_agrees (why.TimedOut since now) V p n same e = (e.0, e.1, whole_agrees p wanting e.0 e.1 same e.2, e.3, e.4, e.5)
+  ends_agrees (why.Stalled since now) V p n same e = (e.0, lacks_agrees V p e.0 same e.1, e.2, e.3)
+  ends_agrees (why.Unread level) V p n same e = e
+  ends_agrees why.ReadFailed V p n same e = absurd (n refl)
+  ends_agrees why.WriteFailed V p n same e = (e.0, (e.1.0, lacks_agrees V p e.1.0 same e.1.1, e.1.2))
+  ends_agrees (why.Halted level) V p n same e = (e.0, (e.1.0, lacks_agrees V p e.1.0 same e.1.1))
+  ends_agrees why.NoMemory V p n same e = (e.0, lacks_agrees V p e.0 same e.1)
+  ends_agrees why.Hijacked V p n same e = (e.0, e.1, e.2, whole_to_agrees p e.0 e.1 e.2 same e.3, e.4, e.5)
 
 -- which request closes by draining changes no reply below it
 last_below : (i k : ℕ) → i < k → is_last None i ≡ is_last (Some k) i

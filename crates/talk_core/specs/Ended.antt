@@ -13,6 +13,7 @@ use Rattle.talk_core.specs.declared.ended.IdleBy.TheVariants.{Clock, Drain}
 use Rattle.talk_core.specs.declared.ended.Life.{Life}
 use Rattle.talk_core.specs.declared.ended.Why.{Why}
 use Rattle.talk_core.specs.declared.ended.Why.TheVariants as why
+use Rattle.talk_core.specs.Answer.{IsHandedOver}
 use Rattle.talk_core.specs.Stands.{Word, times_out, IsHijack, ClosesAt, Partly}
 use Rattle.talk_core.specs.Tail.{Voice, tail_of, goes_on}
 use Rattle.talk_core.specs.Talk.{Stop, wanting, refused, closed, hijacked, Talk, text}
@@ -80,6 +81,12 @@ abbrev pub IdleAs : IdleBy → Past → Type 0
 IdleAs (Clock since now) p = since + stock_limits.idle_ms ≤ now
 IdleAs (Drain level) p = (p.given ≢ []) × (1 ≤ level)
 
+-- a read failed, and all was said, or what was being said is a reply that hands the connection over, or behind it
+abbrev pub FailsReading : {H : Type 0} → Voice H → Teller H → Past → Type 0
+FailsReading V T p =
+    (0 < p.failed_reads)
+    × (((stop : Stop) × (rest : List ℕ) × IsUntaken stop × SentWhole T p stop rest p.sent) ⊎ LacksToHijack V T p)
+
 -- what holds of a connection that ended so
 abbrev pub EndsBy : {H : Type 0} → Why → Voice H → Teller H → Past → Type 0
 EndsBy why.Closed V T p = (stop : Stop) × (rest : List ℕ) × IsClosed stop × SentWhole T p stop rest p.sent
@@ -93,7 +100,7 @@ EndsBy (why.Unread level) V T p =
     (p.given ≡ []) × (p.sent ≡ []) × (p.calls ≡ 0) × (p.closing ≡ None) × (1 ≤ level)
 EndsBy why.ReadFailed V T p =
     (0 < p.failed_reads)
-    × (((stop : Stop) × (rest : List ℕ) × IsUntaken stop × SentWhole T p stop rest p.sent) ⊎ LacksToHijack V T p)
+    × (((stop : Stop) × (rest : List ℕ) × IsUntaken stop × SentWhole T p stop rest p.sent) ⊎ ((lacks : List ℕ) × Lacks V T p lacks × IsHandedOver T p.given))
 EndsBy why.WriteFailed V T p = (0 < p.failed_writes) × ((lacks : List ℕ) × Lacks V T p lacks × (lacks ≢ []))
 EndsBy (why.Halted level) V T p = (level ≡ 2) × ((lacks : List ℕ) × Lacks V T p lacks)
 EndsBy why.NoMemory V T p = (lacks : List ℕ) × Lacks V T p lacks
@@ -101,16 +108,17 @@ EndsBy {H} why.Hijacked V T p =
     (h : H) × (rest : List ℕ) × (said : List ℕ)
     × SentWholeTo T p h rest said × (p.sent ≡ said ++ tail_of V h rest p.over) × NeedsDrain (goes_on V h rest p.over) p.told
 
--- a connection has one life, which begins at its first request; one that could not be opened has none
+-- a connection has one life, which begins at its first request; one that could not be opened has none, and nothing
+-- behind it
 abbrev pub AreLives : List Life → Type 0
 AreLives [] = ⊥
 AreLives (life ∷ []) = life.first ≡ 0
 AreLives (life ∷ next ∷ lives) = ⊥
 
-abbrev pub AreEndedLives : List Life → Why → ℕ → Type 0
-AreEndedLives [] why.NoMemory calls = calls ≡ 0
-AreEndedLives [] ended calls = ⊥
-AreEndedLives (life ∷ lives) ended calls = AreLives (life ∷ lives)
+abbrev pub AreEndedLives : List Life → Why → Past → Type 0
+AreEndedLives [] why.NoMemory p = (p.given ≡ []) × (p.sent ≡ []) × (p.calls ≡ 0) × (p.closing ≡ None)
+AreEndedLives [] ended p = ⊥
+AreEndedLives (life ∷ lives) ended p = AreLives (life ∷ lives)
 
 -- what an ended connection has behind it, where its link was given and sent these bytes
 abbrev pub past_of : {L : Type 0} → Seen → Ended L → List ℕ → List ℕ → Bool → Past
@@ -139,7 +147,7 @@ pub record IsEnded (L : Type 0) (seen : L → Seen) {H : Type 0} (V : Voice H) (
   pub sent : List ℕ
   pub over : Bool
   pub shows : Shows (seen e.link) peer given sent over
-  pub lives : AreEndedLives e.lives.items e.why e.calls
+  pub lives : AreEndedLives e.lives.items e.why (past_of (seen e.link) e given sent over)
   pub ends : EndsBy e.why V (tell S e.lives.items local peer e.closing) (past_of (seen e.link) e given sent over)
 
 -- the 408 is said to a connection that was timed out alone

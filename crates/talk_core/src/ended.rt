@@ -82,7 +82,8 @@ pub struct Ended<L> {
     pub calls: u64,
     /// The level of draining that it was last told since its opening or its last placing, 0 where none was.
     pub told: u64,
-    /// The number of the request whose reply closed it by draining, if one did.
+    /// The number of the request at whose run a drain had been told and no byte stood behind it, so that its reply closed,
+    /// or it was the last one anyway; none where there was no such run.
     pub closing: Option<u64>,
     /// Why it ended.
     pub why: Why,

@@ -2,7 +2,7 @@ use Rattle.std.proofs.Common.{subst, sym}
 use Rattle.conn_core.specs.declared.inside.Inside.{Inside}
 use Rattle.conn_core.specs.Owner.{IsUnread}
 use Rattle.conn_core.specs.Shown.{shows}
-use Rattle.conn_core.proofs.OwnerLemmas.{placed_holds}
+use Rattle.conn_core.proofs.UnreadLemmas.{placed_holds}
 use Rattle.conn_core.proofs.conn.Conn.place.Goals as goal
 
 pub returns-clause-holds : goal.returns-clause-holds

@@ -1,6 +1,6 @@
 use Rattle.std.proofs.Common.{sym, subst}
 use Rattle.conn_core.specs.Shown.{Shown, shows}
-use Rattle.conn_core.proofs.OwnerLemmas.{SameParts, drained_parts, parts_hold}
+use Rattle.conn_core.proofs.DrainLemmas.{SameParts, drained_parts, parts_hold}
 use Rattle.conn_core.proofs.conn.Conn.tell_drain.Goals as goal
 
 pub returns-clause-holds : goal.returns-clause-holds

@@ -17,7 +17,8 @@ use Rattle.conn_core.specs.Rests.{RestsAt, Begins}
 use Rattle.conn_core.specs.Shown.{shows, replied_at, why_at}
 use Rattle.conn_core.proofs.BeginLemmas.{with_run, answered, unanswered, asked_ring, asked_few, asked_unended, begins_rest, hands_hold}
 use Rattle.conn_core.proofs.FilledLemmas.{shown_at}
-use Rattle.conn_core.proofs.KeepsLemmas.{begins_run, filled_is, run_keeps, want_keeps}
+use Rattle.conn_core.proofs.BegunLemmas.{begins_run}
+use Rattle.conn_core.proofs.KeepsLemmas.{filled_is, run_keeps, want_keeps}
 use Rattle.conn_core.proofs.PlaceLemmas.{stands_place}
 use Rattle.conn_core.proofs.RetellLemmas.{retold}
 use Rattle.conn_core.proofs.ToldLemmas.{run_began}

@@ -8,7 +8,8 @@ use Rattle.conn_core.specs.Holds.{kept}
 use Rattle.conn_core.specs.Place.{left_at}
 use Rattle.conn_core.specs.Rests.{RestsAt, Begins}
 use Rattle.conn_core.proofs.MoveLemmas.{reading_place}
-use Rattle.conn_core.proofs.OwnerLemmas.{drain_holds, left_holds, left_rests, left_begins}
+use Rattle.conn_core.proofs.TickLemmas.{drain_holds}
+use Rattle.conn_core.proofs.DrainLemmas.{left_holds, left_rests, left_begins}
 use Rattle.conn_core.proofs.PlaceLemmas.{stands_place}
 use Rattle.conn_core.proofs.inside.Inside.drain.Goals as goal
 

@@ -1,7 +1,7 @@
 use Rattle.std.proofs.Common.{refl, sym}
 use Rattle.talk_core.specs.declared.ended.Why.TheVariants as why
 use Rattle.conn_core.specs.declared.place.At.TheVariants as at
-use Rattle.conn_core.proofs.OwnerLemmas.{ends_unread}
+use Rattle.conn_core.proofs.UnreadLemmas.{ends_unread}
 use Rattle.conn_core.proofs.PlaceLemmas.{stands_place}
 use Rattle.conn_core.proofs.inside.Inside.end_unread.Goals as goal
 

@@ -8,7 +8,8 @@ use Rattle.conn_core.proofs.MoveLemmas.{owes_rightly, saying_owing, unsaying, he
 use Rattle.conn_core.proofs.MovingLemmas.{moving_none, flush_made, flush_moving_step, flush_wants}
 use Rattle.conn_core.proofs.FlushLemmas.{flushing_start, flushing_step, flushing_end, falling_start, falling_step, fallen, fallen_over, fallen_step}
 use Rattle.conn_core.proofs.SaysLemmas.{says_ending}
-use Rattle.conn_core.proofs.TurnLemmas.{no_why_saying, owing_live, is_below}
+use Rattle.conn_core.proofs.WhyLemmas.{no_why_saying, owing_live}
+use Rattle.conn_core.proofs.TurnLemmas.{is_below}
 use Rattle.conn_core.proofs.inside.Inside.flush.Goals as goal
 use Rattle.conn_core.proofs.inside.Inside.flush.Goals.{then-writes-eq16-via-then-writes-eq16, then-writes-eq16-via-else-writes-eq16+then-not-is_saying}
 

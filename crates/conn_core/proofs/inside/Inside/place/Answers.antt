@@ -1,4 +1,5 @@
-use Rattle.conn_core.proofs.OwnerLemmas.{rests_told, untold_holds}
+use Rattle.conn_core.proofs.DrainLemmas.{rests_told}
+use Rattle.conn_core.proofs.UnreadLemmas.{untold_holds}
 use Rattle.conn_core.proofs.inside.Inside.place.Goals as goal
 
 pub invariant_of-self : goal.invariant_of-self

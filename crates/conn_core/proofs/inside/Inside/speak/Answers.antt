@@ -5,7 +5,8 @@ use Rattle.conn_core.specs.Shown.{shows, why_at}
 use Rattle.conn_core.proofs.MoveLemmas.{owes_rightly, saying_owing}
 use Rattle.conn_core.proofs.MovingLemmas.{may_write, want_makes, write_makes, unwritten_stops}
 use Rattle.conn_core.proofs.SaysLemmas.{says_ending}
-use Rattle.conn_core.proofs.TurnLemmas.{stays, say_steps, no_why_saying, is_below}
+use Rattle.conn_core.proofs.TurnLemmas.{stays, say_steps, is_below}
+use Rattle.conn_core.proofs.WhyLemmas.{no_why_saying}
 use Rattle.conn_core.proofs.inside.Inside.speak.Goals as goal
 use Rattle.conn_core.proofs.inside.Inside.speak.Goals.{then-left-eq0-via-then-left-eq0, then-left-eq0-via-else-left-eq0+then-left-eq0-2}
 

@@ -7,7 +7,8 @@ use Rattle.conn_core.specs.Place.{state_at as place_as}
 use Rattle.conn_core.specs.Shown.{shows, why_at}
 use Rattle.conn_core.proofs.RetellLemmas.{no_run}
 use Rattle.conn_core.proofs.ShownLemmas.{counted_sum}
-use Rattle.conn_core.proofs.TurnLemmas.{unspent, nothing_read, stays, read_steps, start_steps, ready_unended, no_why_at}
+use Rattle.conn_core.proofs.TurnLemmas.{unspent, nothing_read, stays, read_steps, start_steps, ready_unended}
+use Rattle.conn_core.proofs.WhyLemmas.{no_why_at}
 use Rattle.conn_core.proofs.MoveLemmas.{owes_rightly, hearing_owes, silent_hears}
 use Rattle.conn_core.proofs.MovingLemmas.{is_open, takes_makes, ended_read, read_makes, over_stops, handed_stops, spent_stops}
 use Rattle.conn_core.proofs.inside.Inside.step.Goals as goal

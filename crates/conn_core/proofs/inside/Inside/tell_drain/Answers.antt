@@ -2,7 +2,7 @@ use Rattle.std.proofs.Common.{sym, subst}
 use Rattle.talk_core.specs.Tail.{Voice}
 use Rattle.conn_core.specs.declared.inside.Inside.{Inside}
 use Rattle.conn_core.specs.Holds.{kept, HoldsBy}
-use Rattle.conn_core.proofs.OwnerLemmas.{told_holds}
+use Rattle.conn_core.proofs.DrainLemmas.{told_holds}
 use Rattle.conn_core.proofs.inside.Inside.tell_drain.Goals as goal
 use Rattle.conn_core.proofs.inside.Inside.tell_drain.Goals.{then-self-gt0, else-self-gt0}
 

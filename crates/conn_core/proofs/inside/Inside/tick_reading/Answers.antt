@@ -2,7 +2,7 @@ use Rattle.std.proofs.Common.{refl, sym}
 use Rattle.talk_core.specs.declared.ended.IdleBy.TheVariants.{Clock}
 use Rattle.talk_core.specs.declared.ended.Why.TheVariants as why
 use Rattle.conn_core.specs.declared.place.At.TheVariants as at
-use Rattle.conn_core.proofs.OwnerLemmas.{idle_holds}
+use Rattle.conn_core.proofs.TickLemmas.{idle_holds}
 use Rattle.conn_core.proofs.PlaceLemmas.{stands_place}
 use Rattle.conn_core.proofs.inside.Inside.tick_reading.Goals as goal
 

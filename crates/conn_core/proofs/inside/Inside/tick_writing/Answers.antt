@@ -1,7 +1,7 @@
 use Rattle.std.proofs.Common.{refl, sym}
 use Rattle.talk_core.specs.declared.ended.Why.TheVariants as why
 use Rattle.conn_core.specs.declared.place.At.TheVariants as at
-use Rattle.conn_core.proofs.OwnerLemmas.{stalled_holds, ring_owed, some_bytes}
+use Rattle.conn_core.proofs.TickLemmas.{stalled_holds, ring_owed, some_bytes}
 use Rattle.conn_core.proofs.PlaceLemmas.{stands_place}
 use Rattle.conn_core.proofs.inside.Inside.tick_writing.Goals as goal
 

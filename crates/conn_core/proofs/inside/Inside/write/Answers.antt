@@ -13,7 +13,8 @@ use Rattle.conn_core.specs.Rests.{Begins}
 use Rattle.conn_core.specs.Shown.{shows, owed_at, why_at}
 use Rattle.conn_core.specs.Steps.{CompletesTo, BeginsAs}
 use Rattle.conn_core.proofs.FilledLemmas.{shown_at}
-use Rattle.conn_core.proofs.KeepsLemmas.{begins_as, filled_is, took_keeps, some_keeps, none_keeps, failed_keeps, lacked_keeps}
+use Rattle.conn_core.proofs.BegunLemmas.{begins_as}
+use Rattle.conn_core.proofs.KeepsLemmas.{filled_is, took_keeps, some_keeps, none_keeps, failed_keeps, lacked_keeps}
 use Rattle.conn_core.proofs.CompleteLemmas.{completes_hold, completes_rest}
 use Rattle.conn_core.proofs.PlaceLemmas.{stands_place}
 use Rattle.conn_core.proofs.SaidLemmas.{moved_by_write, filled_says, filled_ring, filled_owes, SaidShown, said_on, said_over, said_whole, waiting_shown}

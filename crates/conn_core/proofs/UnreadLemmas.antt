@@ -1,0 +1,190 @@
+-- What stands where no byte was ever read.
+use Rattle.std.proofs.Common.{◌≡◌, ◌≢◌, ℕ, ◌+◌, ◌-◌, ◌^◌, ◌<◌, ◌≤◌, min, zero, suc, Bool, true, false, List, [], ◌∷◌, ◌++◌, length, refl, sym, ap, subst, ◌∙◌, arith, length-append, Option, None, Some, inl, inr}
+use Rattle.std.specs.Prelude.{is_some, ◌==◌}
+use Rattle.std.proofs.lemmas.Bool.Decides.{nat_tests}
+use Rattle.std.specs.Prelude.{slice_index_or}
+use Rattle.std.proofs.lemmas.List.{append-nil, nil_from_length}
+use Rattle.rack_types.specs.declared.body.Body.{Ghosts}
+use Rattle.rack_types.specs.declared.fault.Fault.TheVariants.{T1}
+use Rattle.rack_types.specs.declared.peer.Local.{Local}
+use Rattle.rack_types.specs.Request.{Parts}
+use Rattle.message_framing.specs.declared.intake.Intake.{Intake}
+use Rattle.message_framing.specs.HeadText.{skipped}
+use Rattle.message_framing.specs.Intake.{Fed}
+use Rattle.reply_framing.specs.declared.types.After.{After}
+use Rattle.reply_framing.specs.declared.types.After.TheVariants.{Keep, Close, Hijack}
+use Rattle.reply_framing.specs.Reply.{body_after}
+use Rattle.reply_framing.specs.Fault.{fault_reply}
+use Rattle.rack_outside.specs.Link.{Seen}
+use Rattle.message_framing.specs.Request.{IsRequest, Refusal, Wanting, Begun}
+use Rattle.message_framing.proofs.CallerLemmas.{wanting_nil, begins_whole}
+use Rattle.talk_core.specs.declared.ended.Life.{Life}
+use Rattle.talk_core.specs.declared.ended.Why.TheVariants as why
+use Rattle.talk_core.specs.Ended.{AreLives, IdleAs, NeedsDrain, SentWhole}
+use Rattle.talk_core.specs.declared.ended.IdleBy.{IdleBy}
+use Rattle.talk_core.specs.declared.ended.IdleBy.TheVariants.{Clock, Drain}
+use Rattle.talk_core.specs.declared.ended.Why.{Why}
+use Rattle.talk_core.specs.Stands.{Word, asked_by, silent, replies, refuses, times_out, hands_over, Stands, ClosesAt}
+use Rattle.talk_core.specs.Tail.{Voice, goes_on}
+use Rattle.talk_core.specs.Talk.{Asks, Stop, wanting, hijacked, replies_to}
+use Rattle.talk_core.specs.Teller.{Stacks, Teller, tell, last_phase}
+use Rattle.conn_core.specs.declared.inside.Inside.{Inside}
+use Rattle.talk_core.proofs.CallerLemmas.{stands_timed, asks_snoc}
+use Rattle.conn_core.specs.declared.moments.Ending.{Ending}
+use Rattle.conn_core.specs.declared.moments.Late.{Late}
+use Rattle.conn_core.specs.declared.place.At.{At}
+use Rattle.conn_core.specs.declared.place.At.TheVariants as at
+use Rattle.conn_core.specs.declared.state.State.{State}
+use Rattle.conn_core.specs.declared.state.State.TheVariants as state
+use Rattle.conn_core.specs.Holds.{Kept, kept, past, Between, Replying, Handed, Refuses, HoldsAt, StandsAt, HoldsBy}
+use Rattle.conn_core.specs.Owner.{IsUnread, PlacedIn, ReadsOn, StandsNext, drained, drained_from, drained_in, drained_hijacked, drained_reading}
+use Rattle.conn_core.specs.Place.{state_at, left_at}
+use Rattle.conn_core.specs.Plain.{EndsPlainly}
+use Rattle.conn_core.specs.Rests.{GoesOn, after_of, RestsAt, BegunAs, Begins}
+use Rattle.conn_core.specs.Keeps.{BegunNow, no_bytes}
+use Rattle.conn_core.specs.Shown.{Shown, shows, owed_at, fault_at}
+use Rattle.conn_core.proofs.ConnLemmas.{Part, PartOf, live_part}
+use Rattle.conn_core.proofs.HijackLemmas.{parted}
+use Rattle.conn_core.proofs.PlaceLemmas.{over_same, unclosed}
+use Rattle.conn_core.proofs.MoveLemmas.{reading_place}
+use Rattle.conn_core.proofs.ReadLemmas.{sent_whole}
+use Rattle.conn_core.proofs.RetellLemmas.{retold}
+
+pub none_before : (xs ys : List ℕ) → [] ≡ xs ++ ys → xs ≡ []
+none_before xs ys e =
+    let none : length xs ≡ 0 = omega (arith, ap length e, length-append xs ys) in nil_from_length xs none
+
+-- nothing is asked in no bytes
+asks_nothing : (rs : List Parts) (rest : List ℕ) → Asks [] rs rest → (rs ≡ []) × (rest ≡ [])
+asks_nothing [] rest e = (refl, sym e)
+asks_nothing (r ∷ rs) rest e =
+    absurd (wanting_nil.0 (length {A = ℕ} []) r (begins_whole [] r (subst (λ (x : List ℕ). IsRequest x r) (none_before e.0 e.1 e.2) e.3)))
+
+some_asked : {A : Type 0} (xs : List A) (x : A) → xs ++ x ∷ [] ≡ [] → ⊥
+some_asked {A} xs x e = omega (arith, ap length e, length-append xs (x ∷ []))
+
+module _ {H : Type 0} (V : Voice H) (T : Teller H) (over : Bool) (sent : List ℕ) (k : ℕ) where
+  -- of no bytes nothing is said
+  unread_word : (word : Word H) (rest lacks : List ℕ) → Stands V T over [] sent k word rest lacks → (sent ≡ []) × (k ≡ 0) × (length (asked_by word) ≡ 0)
+  unread_word silent rest lacks h =
+      let none : h.whole ≡ [] = sym (append-nil h.whole) ∙ (asks_nothing (h.whole ++ []) rest h.asks).0 in (
+        h.sent_is ∙ ap (λ (rs : List Parts). replies_to T 0 rs ++ h.part) none ∙ none_before h.part lacks (sym h.part_is),
+        h.count ∙ ap length none,
+        refl,
+      )
+  unread_word (replies r) rest lacks h = absurd (some_asked h.whole r (asks_nothing (h.whole ++ r ∷ []) rest h.asks).0)
+  unread_word (refuses f) rest lacks h =
+      absurd (wanting_nil.1 f (subst (λ (x : List ℕ). Refusal x f) (asks_nothing (h.whole ++ []) rest h.asks).1 h.fits))
+  unread_word times_out rest lacks h =
+      let begun : Begun [] = subst (λ (x : List ℕ). Begun x) (asks_nothing (h.whole ++ []) rest h.asks).1 h.fits.1 in absurd (omega (arith, begun))
+  unread_word (hands_over r who) rest lacks h = absurd (some_asked h.whole r (asks_nothing (h.whole ++ r ∷ []) rest h.asks).0)
+
+-- no reply closes by draining where nothing was run
+unclosing : (closing : Option ℕ) (calls : ℕ) (P : Type 0) (rest : List ℕ) → calls ≡ 0 → ClosesAt closing calls P rest → closing ≡ None
+unclosing None calls P rest none c = refl
+unclosing (Some k) calls P rest none c = absurd (omega (arith, none, c.0))
+
+unread_part : {H : Type 0} (V : Voice H) (T : Teller H) (over : Bool) (sent : List ℕ) (calls : ℕ) (closing : Option ℕ) (timed : Bool) (owed : List ℕ)
+    → Part V T over [] sent calls closing timed owed → (sent ≡ []) × (calls ≡ 0) × (closing ≡ None)
+unread_part {H} V T over sent calls closing timed owed p =
+    let x = unread_word V T over sent p.partly.k p.word p.partly.rest owed p.partly.stands in
+    let none : calls ≡ 0 = omega (arith, p.partly.calls_is, x.1, x.2) in
+    (x.0, none, unclosing closing calls _ p.partly.rest none p.partly.closes)
+
+-- no byte was given where none was counted
+given_none : (taken : ℕ) (given : List ℕ) → taken ≡ min (length given) (2 ^ 64 - 1) → taken ≡ 0 → given ≡ []
+given_none taken given counts none = let few : length given ≡ 0 = omega (arith, counts, none) in nil_from_length given few
+
+-- nothing was given, sent or run
+pub unread : {B H : Type 0} {g : Ghosts B} (V : Voice H) (T : Teller H) (s : Seen) (p : Inside B H g) → p.taken ≡ 0 → state_at p.at ≢ state.Over
+    → (h : HoldsBy V T s p) → (h.given ≡ []) × (h.sent ≡ []) × (p.calls ≡ 0) × (p.ending.closing ≡ None)
+unread {B} {H} {g} V T s p none live h =
+    let nothing : h.given ≡ [] = given_none p.taken h.given h.counts none in
+    let part : PartOf V T h.over [] h.sent (kept p) (owed_at p.at p.ring.items) =
+    subst (λ (x : List ℕ). PartOf V T h.over x h.sent (kept p) (owed_at p.at p.ring.items)) nothing
+    (live_part p.at V T s h.over h.given h.sent (kept p) live h.at) in
+    let x = unread_part V T h.over h.sent p.calls p.ending.closing (is_some p.ending.late) (owed_at p.at p.ring.items) part in
+    (nothing, x.0, x.1, x.2)
+
+-- it may be let go
+pub ends_unread : {B H : Type 0} {g : Ghosts B} (V : Voice H) (T : Teller H) (s : Seen) (p : Inside B H g) (c : Kept) (level : ℕ) → p.taken ≡ 0
+    → state_at p.at ≢ state.Over → 1 ≤ level → c.calls ≡ p.calls → c.taken ≡ p.taken → c.ending ≡ p.ending → HoldsBy V T s p
+    → StandsAt {B = B} V T s p.peer (at.Over (why.Unread level)) c
+ends_unread {B} {H} {g} V T s p c level none live some n t m h =
+    let x = unread V T s p none live h in
+    record {
+      given = h.given;
+      sent = h.sent;
+      over = h.over;
+      shows = h.shows;
+      counts = t ∙ h.counts;
+      at = (x.0, x.1, n ∙ x.2, ap (λ (e : Ending). e.closing) m ∙ x.3, some);
+    }
+
+-- the phase of the last of some lives
+pub last_is : (lives : List Life) (life : Life) → length lives ≢ 0 → (slice_index_or lives (length lives - 1) life).phase ≡ last_phase lives
+last_is [] life some = absurd (some refl)
+last_is (x ∷ []) life some = refl
+last_is (x ∷ y ∷ xs) life some =
+    let next : suc (suc (length xs)) - 1 ≡ suc (suc (length xs) - 1) = omega arith in
+    ap (λ (n : ℕ). (slice_index_or (x ∷ y ∷ xs) n life).phase) next ∙ last_is (y ∷ xs) life (λ e. cc)
+
+-- of one of which no byte was ever read what it was told doesn't matter
+pub untold_holds : {B H : Type 0} {g : Ghosts B} (V : Voice H) (T : Teller H) (s : Seen) (p : Inside B H g) (told : ℕ) → p.taken ≡ 0
+    → state_at p.at ≢ state.Over → HoldsBy V T s p → StandsAt V T s p.peer p.at (record (kept p) { ending = record p.ending { told = told } })
+untold_holds {B} {H} {g} V T s p told none live h = record {
+  given = h.given;
+  sent = h.sent;
+  over = h.over;
+  shows = h.shows;
+  counts = h.counts;
+  at = go p.at live h.at;
+}
+  where
+    c : Kept
+    c = kept p
+
+    d : Kept
+    d = record c { ending = record c.ending { told = told } }
+
+    nothing : p.calls ≡ 0
+    nothing = (unread V T s p none live h).2
+
+    between : (now : List ℕ) → Between V T h.over h.given h.sent c now → Between V T h.over h.given h.sent d now
+    between now x = record { fed = x.fed; ring = x.ring; live = x.live; unended = x.unended; stands = x.stands }
+
+    run : (k : ℕ) → c.calls ≡ suc k → ⊥
+    run k e = omega (arith, e, nothing)
+
+    go : (a : At B H) → state_at a ≢ state.Over → HoldsAt a V T s h.over h.given h.sent c → HoldsAt a V T s h.over h.given h.sent d
+    go at.Reading y x = (x.0, x.1, x.2, between x.0 x.3)
+    go at.Asked y x = (x.0, x.1, x.2, between x.0 x.3)
+    go (at.Refused f) y x = (x.0, x.1, x.2, between x.0 x.3)
+    go (at.Answering f) y x = absurd (run x.0 x.4.count)
+    go (at.Writing keeps) y x = absurd (run x.0 x.3.count)
+    go (at.Handing who) y x = absurd (run x.0 x.4.count)
+    go at.Refusing y x = refusing c.ending.late x
+      where
+        refusing : (late : Option Late) → Refuses late V T h.over h.given h.sent c → Refuses late V T h.over h.given h.sent d
+        refusing None z = z
+        refusing (Some late) z = z
+    go (at.Taken who) y x = absurd (run x.handed.k x.handed.count)
+    go (at.Speaking who) y x = absurd (run x.handed.k x.handed.count)
+    go at.Parting y x = absurd (run x.handed.k x.handed.count)
+    go (at.Over w) y x = absurd (y refl)
+
+-- in another phase it stands for its talk over the stacks as before: nothing was run
+pub placed_holds : {B H : Type 0} {g : Ghosts B} (V : Voice H) (S : Stacks H) (old mid new : Inside B H g) (s : Seen) (phase : ℕ) → mid ≡ old
+    → IsUnread (shows mid) → PlacedIn phase (shows mid) (shows new) → ((T : Teller H) → HoldsBy V T s mid → HoldsBy V T s new) → AreLives old.lives.items
+    → HoldsBy V (tell S old.lives.items old.local old.peer old.ending.closing) s old
+    → AreLives new.lives.items × HoldsBy V (tell S new.lives.items new.local new.peer new.ending.closing) s new
+placed_holds {B} {H} {g} V S old mid new s phase e unread_is placed step are h =
+    let are_mid : AreLives mid.lives.items = subst (λ (x : Inside B H g). AreLives x.lives.items) (sym e) are in
+    let T : Teller H = tell S mid.lives.items mid.local mid.peer mid.ending.closing in
+    let U : Teller H = tell S new.lives.items new.local new.peer new.ending.closing in
+    let h_mid : HoldsBy V T s mid = subst (λ (x : Inside B H g). HoldsBy V (tell S x.lives.items x.local x.peer x.ending.closing) s x) (sym e) h in
+    let none : mid.calls ≡ 0 = (unread V T s mid unread_is.0 unread_is.1 h_mid).2 in
+    let same : new.calls ≡ mid.calls = ap (λ (x : Shown). x.calls) placed.rest in (
+      subst AreLives (sym (placed.lives are_mid)) refl,
+      retold V T U s new.peer new.at (kept new) (λ i lt r. absurd (omega (arith, lt, same, none))) (step T h_mid),
+    )
