@@ -96,7 +96,7 @@ fn is_served(rt: HostRuntime) {
 }
 
 // Its number, how many requests were run, and how many bytes came.
-fn tells(conn: &MemConn) -> (u64, u64, u64) {
+fn tells(conn: &MemConn) -> (u32, u64, u64) {
     (conn.number(), conn.calls(), conn.taken())
 }
 
