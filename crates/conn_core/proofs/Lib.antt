@@ -16,6 +16,7 @@ pub mod BegunLemmas
 pub mod KeepsLemmas
 pub mod MoveLemmas
 pub mod MovingLemmas
+pub mod RightlyLemmas
 pub mod ToldLemmas
 pub mod FedLemmas
 pub mod WhyLemmas

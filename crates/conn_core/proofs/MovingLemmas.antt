@@ -128,13 +128,17 @@ full_open o s =
     record { runs = ten; reads = many; writes = many; unwaited = refl }
 
 -- the first move of a turn
-pub moving_start : (now : ℕ) (o n : Shown) (s : Seen) (f l : Left) → f ≡ full → TakesUp now (f.runs - l.runs) o n → l ≡ record f { runs = l.runs } → l.runs ≤ f.runs
-    → o.state ≡ state.Ready → OwesRightly n → Moving now (left_at o s full false) (left_at n s l false)
-moving_start now o n s f l all up is few ready owes =
+pub start_makes : (now : ℕ) (o n : Shown) (s : Seen) (f l : Left) → f ≡ full → TakesUp now (f.runs - l.runs) o n → l ≡ record f { runs = l.runs } → l.runs ≤ f.runs
+    → o.state ≡ state.Ready → OwesRightly n → MadeTo now (left_at o s full false) (left_at n s l false)
+start_makes now o n s f l all up is few ready owes =
     let made : MadeTo now (left_at o s f false) (left_at n s l false) =
     takes_makes now o n s f l up is few ready (subst (λ (x : Left). IsOpen (left_at o s x false)) (sym all) (full_open o s)) owes in
-    moving_step now (left_at o s full false) (left_at o s full false) (left_at n s l false) (moving_none now (left_at o s full false))
-    (subst (λ (x : Left). MadeTo now (left_at o s x false) (left_at n s l false)) all made)
+    subst (λ (x : Left). MadeTo now (left_at o s x false) (left_at n s l false)) all made
+
+pub moving_start : (now : ℕ) (o n : Shown) (s : Seen) (l : Left) → MadeTo now (left_at o s full false) (left_at n s l false)
+    → Moving now (left_at o s full false) (left_at n s l false)
+moving_start now o n s l made =
+    moving_step now (left_at o s full false) (left_at o s full false) (left_at n s l false) (moving_none now (left_at o s full false)) made
 
 -- all moves of a turn
 pub record TurnMade (now : ℕ) (o n : Shown) (s u : Seen) (runs reads writes : ℕ) : Type 0 where
@@ -144,7 +148,7 @@ pub record TurnMade (now : ℕ) (o n : Shown) (s u : Seen) (runs reads writes : 
   pub stops : TurnStops (turn_at n u runs reads writes waited)
 
 -- what is left, by what was made
-turn_moment : (n : Shown) (u : Seen) (l : Left) (w : Bool) → (l.runs ≤ 10) × (l.reads ≤ 160) × (l.writes ≤ 160)
+pub turn_moment : (n : Shown) (u : Seen) (l : Left) (w : Bool) → (l.runs ≤ 10) × (l.reads ≤ 160) × (l.writes ≤ 160)
     → left_at n u l w ≡ turn_at n u (10 - l.runs) (160 - l.reads) (160 - l.writes) w
 turn_moment n u l w few =
     let runs : l.runs ≡ 10 - (10 - l.runs) = omega (arith, few.0) in

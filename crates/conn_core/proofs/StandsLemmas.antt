@@ -38,9 +38,10 @@ use Rattle.conn_core.specs.declared.place.At.TheVariants as at
 use Rattle.conn_core.specs.declared.state.State.{State}
 use Rattle.conn_core.specs.declared.state.State.TheVariants as state
 use Rattle.conn_core.specs.Holds.{Kept, kept, past, Between, Replying, Handed, Refuses, HoldsAt, StandsAt, HoldsBy}
-use Rattle.conn_core.specs.Owner.{RefusesNext, IsUnread, PlacedIn, ReadsOn, StandsNext, drained, drained_from, drained_in, drained_hijacked, drained_reading}
+use Rattle.conn_core.specs.Owner.{RefusesNext, BeginsRightly, IsUnread, PlacedIn, ReadsOn, StandsNext, drained, drained_from, drained_in, drained_hijacked, drained_reading}
 use Rattle.conn_core.specs.Place.{state_at, left_at}
 use Rattle.conn_core.specs.Plain.{EndsPlainly}
+use Rattle.conn_core.specs.Runs.{RunsBy}
 use Rattle.conn_core.specs.Rests.{GoesOn, after_of, RestsAt, BegunAs, Begins}
 use Rattle.conn_core.specs.Keeps.{BegunNow, no_bytes}
 use Rattle.conn_core.specs.Shown.{Shown, shows, owed_at, fault_at}
@@ -130,6 +131,20 @@ refuses_next {B} {H} {g} V T s p f ready is h =
       all = stands.count;
       refusal = x.1;
     }
+
+-- all three of them
+pub begins_rightly : {B H : Type 0} {g : Ghosts B} (V : Voice H) (T : Teller H) (s : Seen) (p : Inside B H g) → HoldsBy V T s p
+    → BeginsRightly s (shows p)
+begins_rightly {B} {H} {g} V T s p h = record {
+  reads = λ reading. reads_on V T s p reading h;
+  stands = λ ready none. stands_next V T s p ready none h;
+  refuses = λ f ready is. refuses_next V T s p f ready is h;
+}
+
+-- the same over any replies
+pub runs_rightly : {B H : Type 0} {g : Ghosts B} (V : Voice H) (T : Teller H) (calls : ℕ) (s : Seen) (p : Inside B H g) → RunsBy V T calls s p
+    → BeginsRightly s (shows p)
+runs_rightly {B} {H} {g} V T calls s p r = begins_rightly V r.teller s p r.stands
 
 -- no request is begun at the opening
 pub fresh_begun : (intake : Intake) (now : ℕ) (begun : Option ℕ) → Fed intake [] → ((b : List ℕ) → Fed intake b → BegunAs begun b) → BegunNow now None begun

@@ -1,5 +1,5 @@
 -- What the calls of a connection answer, and when each why may come.
-use Rattle.std.specs.Prelude.{◌≡◌, ◌≢◌, ℕ, ◌+◌, ◌<◌, ◌≤◌, Bool, false, List, [], length, Option, None, Some, ◌⊎◌, ⊤}
+use Rattle.std.specs.Prelude.{◌≡◌, ◌≢◌, ℕ, ◌+◌, ◌<◌, ◌≤◌, Bool, false, List, [], ◌∷◌, length, Option, None, Some, ◌⊎◌, ⊤}
 use Rattle.rack_outside.specs.Link.{Seen, marked}
 use Rattle.rack_outside.specs.Told.{Rose}
 use Rattle.rack_outside.specs.declared.link.LinkRead.{LinkRead}
@@ -13,7 +13,8 @@ use Rattle.conn_core.specs.declared.state.State.{State}
 use Rattle.conn_core.specs.declared.state.State.TheVariants as state
 use Rattle.conn_core.specs.Keeps.{Keeps, Drains, Read}
 use Rattle.conn_core.specs.Shown.{Shown, Moved}
-use Rattle.conn_core.specs.Moves.{size_of, ReadsOnce, Move, Goes, turn_at, TurnStops, flush_at, FlushStops, OwesRightly}
+use Rattle.conn_core.specs.Owner.{BeginsRightly}
+use Rattle.conn_core.specs.Moves.{size_of, ReadsOnce, Move, Moment, Makes, Goes, turn_at, TurnStops, flush_at, FlushStops, OwesRightly}
 
 -- why a turn or a flush may end a connection, by what became of its link: that a read told the peer's end, or that a
 -- failure was counted. Whether the peer ended changes only with the first of them. One whose last request took too long
@@ -133,6 +134,23 @@ pub record Turns (now : ℕ) (result : Next) (old new : Shown) (s s' : Seen) : T
   pub drains : Drains old new
   pub ends : TurnEnds None new.why s s'
   pub tells : TurnTells result runs reads writes moved.came old new s s'
+
+-- these moves lead from a moment to another, and at each moment at which one is made, what is read on, stands or is
+-- refused is what comes behind the requests that were run
+abbrev pub GoesRightly : ℕ → List Move → Moment → Moment → Type 0
+GoesRightly now [] m n = n ≡ m
+GoesRightly now (move ∷ moves) m n =
+    BeginsRightly m.seen m.shown × (next : Moment) × Makes now move m next × OwesRightly next.shown × GoesRightly now moves next n
+
+-- a turn of such moves
+pub record TurnsRightly (now : ℕ) (old new : Shown) (s s' : Seen) : Type 0 where
+  pub runs : ℕ
+  pub reads : ℕ
+  pub writes : ℕ
+  pub few : (runs ≤ 10) × (reads ≤ 160) × (writes ≤ 160)
+  pub moves : List Move
+  pub waited : Bool
+  pub made : GoesRightly now moves (turn_at old s 0 0 0 false) (turn_at new s' runs reads writes waited)
 
 -- what a `flush` leaves, by the state before it: behind a reply the connection rests as behind one, and a hijacker that
 -- has it keeps it

@@ -4,7 +4,7 @@ ghost use Rattle.rack_types.specs.Env.{Pairs};
 ghost use Rattle.rack_types.specs.Limits.{stock_limits};
 ghost use Rattle.talk_core.specs.Ended.{Shows, IsEnded, StandsForTalk};
 ghost use Rattle.talk_core.specs.Teller.{Stacks, Teller, last_phase};
-ghost use Rattle.conn_core.specs.Calls.{Feeds, MayFeed, Turns, Flushes};
+ghost use Rattle.conn_core.specs.Calls.{Feeds, MayFeed, Turns, TurnsRightly, Flushes};
 ghost use Rattle.conn_core.specs.Holds.{Holds, HoldsWith};
 ghost use Rattle.conn_core.specs.Keeps.{reaching};
 ghost use Rattle.conn_core.specs.Moves.{IsOwing};
@@ -169,13 +169,15 @@ impl<L: Link, B: Body, H: Hijack + Drop> Conn<L, B, H> {
     /// behind a read or a write that had to wait. It stops only there, where a hijacker has the connection and
     /// nothing is owed, or where the connection is over, as where memory is refused.
     ///
-    /// Whatever the runner answers, each run belongs to the next request. Where it is steady, the
+    /// Whatever the runner answers, each run belongs to the next request, also within the turn: at each of its
+    /// moves the bytes held are all that stand behind the request that is run. Where the runner is steady, the
     /// connection goes on standing for its talk over the runner's answers.
     pub fn turn<R: Runner<B, H>>(&mut self, runner: &mut R, now: u64) -> Next
         requires ready { (shown self.old).state ≡ State.Ready }
         requires room { R.runs runner.old ≤ 2 ^ 64 - 11 }
         ensures number { number_of self.new ≡ number_of self.old }
         ensures turns { Turns now result (reaching now (shown self.old)) (shown self.new) (L.seen (link_of self.old)) (L.seen (link_of self.new)) }
+        ensures rightly { (T : Teller H) → HoldsWith L.seen (record { says = H.says; ends = H.ends }) T self.old → TurnsRightly now (reaching now (shown self.old)) (shown self.new) (L.seen (link_of self.old)) (L.seen (link_of self.new)) }
         ensures runs { R.runs runner.new + (shown self.old).calls ≡ R.runs runner.old + (shown self.new).calls }
         ensures steady { R.steady ≡ true → (ps : Pairs) (input : List ℕ) → R.answer runner.new ps input ≡ R.answer runner.old ps input }
         ensures any { (T : Teller H) → HoldsWith L.seen (record { says = H.says; ends = H.ends }) T self.old → RunsOn L.seen (record { says = H.says; ends = H.ends }) T (shown self.old).calls self.new }

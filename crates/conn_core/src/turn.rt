@@ -2,7 +2,7 @@
 ghost use Rattle.std.specs.Prelude.{◌≡◌, ◌<◌, ◌≤◌, ◌+◌, ◌-◌, ◌^◌, ℕ, List, true};
 ghost use Rattle.rack_types.specs.Env.{Pairs};
 ghost use Rattle.talk_core.specs.Teller.{Teller};
-ghost use Rattle.conn_core.specs.Calls.{Turns};
+ghost use Rattle.conn_core.specs.Calls.{Turns, TurnsRightly};
 ghost use Rattle.conn_core.specs.Holds.{HoldsBy};
 ghost use Rattle.conn_core.specs.Inner.{TellsFrom, Steps, StepLeaves, StepMoves};
 ghost use Rattle.conn_core.specs.Place.{IsSaying, state_at as place_as};
@@ -109,6 +109,7 @@ impl<B: Body, H: Hijack + Drop> Inside<B, H> {
             → HoldsBy (record { says = H.says; ends = H.ends }) T (L.seen link.old) self.old → HoldsBy (record { says = H.says; ends = H.ends }) T (L.seen link.new) self.new }
         ensures any { (T : Teller H) → HoldsBy (record { says = H.says; ends = H.ends }) T (L.seen link.old) self.old → RunsBy (record { says = H.says; ends = H.ends }) T self.old.calls (L.seen link.new) self.new }
         ensures turns { Turns now result (shows self.old) (shows self.new) (L.seen link.old) (L.seen link.new) }
+        ensures rightly { (T : Teller H) → HoldsBy (record { says = H.says; ends = H.ends }) T (L.seen link.old) self.old → TurnsRightly now (shows self.old) (shows self.new) (L.seen link.old) (L.seen link.new) }
         ensures counts { R.runs runner.new + self.old.calls ≡ R.runs runner.old + self.new.calls }
         ensures steady { R.steady ≡ true → (ps : Pairs) (input : List ℕ) → R.answer runner.new ps input ≡ R.answer runner.old ps input }
     {

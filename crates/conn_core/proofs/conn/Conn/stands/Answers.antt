@@ -1,5 +1,5 @@
 use Rattle.conn_core.proofs.ConnLemmas.{live_stands}
-use Rattle.conn_core.proofs.StandsLemmas.{reads_on, stands_next, refuses_next}
+use Rattle.conn_core.proofs.StandsLemmas.{begins_rightly}
 use Rattle.conn_core.proofs.conn.Conn.stands.Goals as goal
 
 pub returns-clause-talk : goal.returns-clause-talk
@@ -7,13 +7,5 @@ returns-clause-talk g c = λ S live h.
     live_stands (record { says = g.H.Hijack.says; ends = g.H.Hijack.ends }) S (g.L.Link.seen c.args.self.now.link) c.args.self.now.inside.value live h.lives_are h.stands
 
 pub returns-clause-begun : goal.returns-clause-begun
-returns-clause-begun g c = λ S h. record {
-  reads = λ reading.
-      reads_on (record { says = g.H.Hijack.says; ends = g.H.Hijack.ends }) _ (g.L.Link.seen c.args.self.now.link) c.args.self.now.inside.value reading h.stands;
-  stands = λ ready none.
-      stands_next (record { says = g.H.Hijack.says; ends = g.H.Hijack.ends }) _ (g.L.Link.seen c.args.self.now.link) c.args.self.now.inside.value ready none
-      h.stands;
-  refuses = λ f ready is.
-      refuses_next (record { says = g.H.Hijack.says; ends = g.H.Hijack.ends }) _ (g.L.Link.seen c.args.self.now.link) c.args.self.now.inside.value f ready is
-      h.stands;
-}
+returns-clause-begun g c = λ S h.
+    begins_rightly (record { says = g.H.Hijack.says; ends = g.H.Hijack.ends }) _ (g.L.Link.seen c.args.self.now.link) c.args.self.now.inside.value h.stands

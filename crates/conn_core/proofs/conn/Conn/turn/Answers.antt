@@ -1,6 +1,7 @@
 use Rattle.talk_core.specs.Tail.{Voice}
 use Rattle.conn_core.proofs.ConnLemmas.{turn_at}
 use Rattle.conn_core.proofs.RetellLemmas.{runs_of_same}
+use Rattle.conn_core.proofs.RightlyLemmas.{rightly_of_same}
 use Rattle.conn_core.proofs.conn.Conn.turn.Goals as goal
 
 pub returns-clause-holds : goal.returns-clause-holds
@@ -17,3 +18,9 @@ returns-clause-any g c = λ T h.
     let runs = runs_of_same V T (g.L.Link.seen c.args.self.now.link) (g.L.Link.seen c.turn.new.link) c.args.self.now.inside.value
     c.deref_mut-inside.result.now c.turn.new.self c.deref_mut-inside.ensures.value (c.turn.ensures.any T) h in
     record { teller = runs.teller; before = runs.before; stands = runs.stands }
+
+pub returns-clause-rightly : goal.returns-clause-rightly
+returns-clause-rightly g c = λ T h.
+    rightly_of_same (record { says = g.H.Hijack.says; ends = g.H.Hijack.ends }) T c.args.now (g.L.Link.seen c.args.self.now.link) (g.L.Link.seen c.turn.new.link)
+    c.args.self.now.inside.value c.deref_mut-inside.result.now c.reach.new.self c.turn.new.self c.deref_mut-inside.ensures.value c.reach.ensures
+    (c.turn.ensures.rightly T) h

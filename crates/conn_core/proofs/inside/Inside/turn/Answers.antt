@@ -4,20 +4,27 @@ use Rattle.conn_core.specs.declared.left.Left.{Left}
 use Rattle.conn_core.specs.Inner.{left_at}
 use Rattle.conn_core.specs.Shown.{shows, replied_at}
 use Rattle.conn_core.proofs.MoveLemmas.{owes_rightly, hearing_owes}
-use Rattle.conn_core.proofs.MovingLemmas.{full, moving_start, moving_step, moving_end}
+use Rattle.conn_core.proofs.MovingLemmas.{full, start_makes, moving_start, moving_step, moving_end}
+use Rattle.conn_core.proofs.RightlyLemmas.{rightly_start, rightly_step, rightly_end}
+use Rattle.conn_core.proofs.StandsLemmas.{begins_rightly, runs_rightly}
 use Rattle.conn_core.proofs.RetellLemmas.{more_runs}
 use Rattle.conn_core.proofs.TurnLemmas.{turning_start, turning_step, turning_end, step_stops, risen, ready_unended, tells_step, tells_before}
 use Rattle.conn_core.proofs.inside.Inside.turn.Goals as goal
 
 pub loop-self-init : goal.loop-self-init
-loop-self-init g c = let p = c.args.self.now in record {
+loop-self-init g c =
+    let p = c.args.self.now in
+    let made = start_makes c.args.now (shows c.args.self.now) (shows c.start.new.self) (g.L.Link.seen c.args.link.now) c.new-left.result c.start.new.left
+    c.new-left.ensures c.start.ensures.takes c.start.ensures.left c.start.ensures.few c.requires.ready (owes_rightly c.start.new.self) in record {
   holds = λ e T tells h. c.start.ensures.holds T (g.L.Link.seen c.args.link.now) tells h;
   any = λ T h. c.start.ensures.any T (g.L.Link.seen c.args.link.now) h;
   turning = turning_start c.args.now (shows c.args.self.now) (shows c.start.new.self) (g.L.Link.seen c.args.link.now) c.new-left.result c.start.new.left
       c.new-left.ensures c.start.ensures.takes c.start.ensures.left c.start.ensures.few
       (ready_unended p.at p.intake p.held p.ring.items p.calls p.ending p.rests c.requires.ready).0;
-  moving = moving_start c.args.now (shows c.args.self.now) (shows c.start.new.self) (g.L.Link.seen c.args.link.now) c.new-left.result c.start.new.left
-      c.new-left.ensures c.start.ensures.takes c.start.ensures.left c.start.ensures.few c.requires.ready (owes_rightly c.start.new.self);
+  moving = moving_start c.args.now (shows c.args.self.now) (shows c.start.new.self) (g.L.Link.seen c.args.link.now) c.start.new.left made;
+  rightly = λ T h.
+      rightly_start c.args.now (shows c.args.self.now) (shows c.start.new.self) (g.L.Link.seen c.args.link.now) c.start.new.left
+      (begins_rightly (record { says = g.H.Hijack.says; ends = g.H.Hijack.ends }) T (g.L.Link.seen c.args.link.now) c.args.self.now h) made;
   counts = c.start.ensures.counts ∙ ap (λ (l : Left). g.R.Runner.runs c.args.runner.now + l.runs) c.new-left.ensures;
   steady = c.start.ensures.steady;
 }
@@ -52,6 +59,12 @@ loop-self-preserved g c =
       moving = moving_step c.args.now (left_at (shows c.args.self.now) (g.L.Link.seen c.args.link.now) full false)
           (left_at (shows c.loop-self.self) (g.L.Link.seen c.loop-self.link) c.loop-self.left false)
           (left_at (shows c.step.new.self) (g.L.Link.seen c.step.new.link) c.step.new.left false) i.moving c.in-GoesOn.ensures.moves;
+      rightly = λ T h.
+          rightly_step c.args.now (left_at (shows c.args.self.now) (g.L.Link.seen c.args.link.now) full false)
+          (left_at (shows c.loop-self.self) (g.L.Link.seen c.loop-self.link) c.loop-self.left false)
+          (left_at (shows c.step.new.self) (g.L.Link.seen c.step.new.link) c.step.new.left false) (i.rightly T h)
+          (runs_rightly (record { says = g.H.Hijack.says; ends = g.H.Hijack.ends }) T c.args.self.now.calls (g.L.Link.seen c.loop-self.link) c.loop-self.self (i.any T h))
+          c.in-GoesOn.ensures.moves;
       counts = counts;
       steady = λ e ps input. c.step.ensures.steady e ps input ∙ i.steady e ps input;
     }
@@ -85,6 +98,21 @@ returns-in-Waits-clause-turns g c =
     c.step.ensures.moves in
     turning_end c.step.new.self.at (shows c.args.self.now) (shows c.step.new.self) (g.L.Link.seen c.args.link.now) (g.L.Link.seen c.step.new.link)
     c.step.new.left (ltb c.replied_at-replied.result c.replied_at.result) turning refl got stopped c.args.now c.turned.result c.turned.ensures made
+
+pub returns-in-Waits-clause-rightly : goal.returns-in-Waits-clause-rightly
+returns-in-Waits-clause-rightly g c = λ T h.
+    let V : Voice g.row.H.Denot = record { says = g.H.Hijack.says; ends = g.H.Hijack.ends } in
+    let i = c.loop-self.invariant in
+    let l = c.loop-self.left in
+    let k = c.step.new.left in
+    let few : (k.runs ≤ 10) × (k.reads ≤ 160) × (k.writes ≤ 160) = (
+      omega (arith, i.turning.few.0, c.step.ensures.steps.few.0),
+      omega (arith, i.turning.few.1, c.step.ensures.steps.few.1),
+      omega (arith, i.turning.few.2, c.step.ensures.steps.few.2),
+    ) in
+    rightly_end c.args.now c.step.result (shows c.args.self.now) (shows c.loop-self.self) (shows c.step.new.self) (g.L.Link.seen c.args.link.now)
+    (g.L.Link.seen c.loop-self.link) (g.L.Link.seen c.step.new.link) l k c.in-Waits.is few (i.rightly T h)
+    (runs_rightly V T c.args.self.now.calls (g.L.Link.seen c.loop-self.link) c.loop-self.self (i.any T h)) c.step.ensures.moves
 
 pub returns-in-Waits-clause-counts : goal.returns-in-Waits-clause-counts
 returns-in-Waits-clause-counts g c =

@@ -6,6 +6,7 @@ use Rattle.conn_core.specs.Inner.{TellsFrom, left_at, work}
 use Rattle.conn_core.specs.Runs.{RunsBy}
 use Rattle.conn_core.specs.Shown.{shows}
 use Rattle.conn_core.proofs.MovingLemmas.{full, Moving}
+use Rattle.conn_core.proofs.RightlyLemmas.{MovingRightly}
 use Rattle.conn_core.proofs.TurnLemmas.{Turning}
 use Rattle.conn_core.proofs.inside.Inside.turn.Given as goal
 
@@ -19,6 +20,8 @@ invariant-loop-self g l = record {
       → RunsBy (record { says = g.H.Hijack.says; ends = g.H.Hijack.ends }) T l.fn.self.calls (g.L.Link.seen l.link) l.self;
   turning : Turning (shows l.fn.self) (shows l.self) (g.L.Link.seen l.fn.link) (g.L.Link.seen l.link) l.left;
   moving : Moving l.fn.now (left_at (shows l.fn.self) (g.L.Link.seen l.fn.link) full false) (left_at (shows l.self) (g.L.Link.seen l.link) l.left false);
+  rightly : (T : Teller g.row.H.Denot) → HoldsBy (record { says = g.H.Hijack.says; ends = g.H.Hijack.ends }) T (g.L.Link.seen l.fn.link) l.fn.self
+      → MovingRightly l.fn.now (left_at (shows l.fn.self) (g.L.Link.seen l.fn.link) full false) (left_at (shows l.self) (g.L.Link.seen l.link) l.left false);
   counts : g.R.Runner.runs l.runner + l.left.runs ≡ g.R.Runner.runs l.fn.runner + 10;
   steady : g.R.Runner.steady ≡ true → (ps : Pairs) (input : List ℕ) → g.R.Runner.answer l.runner ps input ≡ g.R.Runner.answer l.fn.runner ps input;
 }
