@@ -1,6 +1,6 @@
 -- What the moves of a connection do to its ring and to the moments that it keeps.
 use Rattle.std.proofs.Common.{◌≡◌, ◌≢◌, ℕ, ◌<◌, ◌≤◌, Bool, true, false, List, [], ◌∷◌, length, take, drop, refl, sym, ap, subst, ◌∙◌, arith, Option, None, Some, ◌⊎◌, inl, inr}
-use Rattle.std.specs.Prelude.{not, ◌&&◌, ◌||◌, ◌==◌, ⊤}
+use Rattle.std.specs.Prelude.{not, ◌&&◌, ◌||◌, ◌==◌}
 use Rattle.std.proofs.lemmas.Bool.Decides.{nat_tests}
 use Rattle.rack_outside.specs.declared.link.LinkRead.{LinkRead}
 use Rattle.rack_outside.specs.declared.link.LinkRead.TheVariants as read
@@ -11,7 +11,6 @@ use Rattle.rack_types.specs.declared.fault.Fault.{Fault}
 use Rattle.rack_types.specs.declared.peer.Local.{Local}
 use Rattle.rack_types.specs.Body.{Content}
 use Rattle.rack_types.specs.Env.{Pairs}
-use Rattle.circular_buffer.specs.Buffer.{Buffer}
 use Rattle.message_framing.specs.declared.intake.Intake.{Intake}
 use Rattle.reply_framing.specs.declared.types.Ask.{Ask}
 use Rattle.talk_core.specs.declared.ended.Life.{Life}
@@ -25,12 +24,11 @@ use Rattle.conn_core.specs.declared.place.At.TheVariants as at
 use Rattle.conn_core.specs.declared.state.State.{State}
 use Rattle.conn_core.specs.declared.state.State.TheVariants as state
 use Rattle.conn_core.specs.Inner.{IsFilledAt, Fills}
-use Rattle.conn_core.specs.Keeps.{Keeps, Move, Run, Refusal, Want, Read, Write, ring_room, no_bytes, filled_if, filled_then, took_by, says_behind, still_in, ring_by, BegunBy, BegunFrom, ending_run}
+use Rattle.conn_core.specs.Keeps.{Keeps, Run, Refusal, Want, Read, Write, ring_room, no_bytes, filled_if, filled_then, took_by, says_behind, still_in, ring_by, BegunBy, BegunFrom, ending_run}
 use Rattle.conn_core.specs.Moments.{ended_by}
-use Rattle.conn_core.specs.Place.{IsSaying, IsHearing, state_at}
-use Rattle.conn_core.specs.Rests.{Begins}
+use Rattle.conn_core.specs.Place.{IsHearing, state_at}
 use Rattle.conn_core.specs.Shown.{Shown, owed_at, ring_at}
-use Rattle.conn_core.specs.Steps.{FeedsHeld, BeginsAs, BeginsAt, Tells, TellsEnd, HandsOn, EndsOn, FillsTo, CompletesTo}
+use Rattle.conn_core.specs.Steps.{FeedsHeld, BeginsAs, BeginsAt, HandsOn, EndsOn, CompletesTo}
 use Rattle.conn_core.proofs.FilledLemmas.{shown_at}
 use Rattle.conn_core.proofs.MoveLemmas.{owed_left, fills_front, some_not}
 use Rattle.conn_core.proofs.SaidLemmas.{filled_ring, filled_owes}

@@ -1,39 +1,21 @@
 -- What the ring holds behind each step of a connection.
-use Rattle.std.proofs.Common.{◌≡◌, ◌≢◌, ℕ, ◌<◌, ◌≤◌, Bool, true, false, List, [], ◌∷◌, length, take, drop, refl, sym, ap, subst, ◌∙◌, arith, Option, None, Some, ◌⊎◌, inl, inr}
-use Rattle.std.specs.Prelude.{not, ◌&&◌, ◌||◌, ◌==◌, ⊤}
-use Rattle.std.proofs.lemmas.Bool.Decides.{nat_tests}
-use Rattle.rack_outside.specs.declared.link.LinkRead.{LinkRead}
-use Rattle.rack_outside.specs.declared.link.LinkRead.TheVariants as read
-use Rattle.rack_outside.specs.declared.link.LinkWrite.{LinkWrite}
-use Rattle.rack_outside.specs.declared.link.LinkWrite.TheVariants as write
+use Rattle.std.proofs.Common.{◌≡◌, ◌≢◌, ℕ, Bool, List, [], refl, sym, ap, ◌∙◌}
+use Rattle.std.specs.Prelude.{⊤}
 use Rattle.rack_types.specs.declared.answer.Answer.{Answer}
-use Rattle.rack_types.specs.declared.fault.Fault.{Fault}
-use Rattle.rack_types.specs.declared.peer.Local.{Local}
 use Rattle.rack_types.specs.Body.{Content}
 use Rattle.rack_types.specs.Env.{Pairs}
-use Rattle.circular_buffer.specs.Buffer.{Buffer}
 use Rattle.message_framing.specs.declared.intake.Intake.{Intake}
 use Rattle.reply_framing.specs.declared.types.Ask.{Ask}
-use Rattle.talk_core.specs.declared.ended.Life.{Life}
-use Rattle.talk_core.specs.declared.ended.Why.{Why}
-use Rattle.talk_core.specs.declared.ended.Why.TheVariants as why
 use Rattle.talk_core.specs.Tail.{Voice}
-use Rattle.conn_core.specs.declared.moments.Ending.{Ending}
-use Rattle.conn_core.specs.declared.moments.Moments.{Moments}
 use Rattle.conn_core.specs.declared.place.At.{At}
 use Rattle.conn_core.specs.declared.place.At.TheVariants as at
 use Rattle.conn_core.specs.declared.state.State.{State}
 use Rattle.conn_core.specs.declared.state.State.TheVariants as state
-use Rattle.conn_core.specs.Inner.{IsFilledAt, Fills}
-use Rattle.conn_core.specs.Keeps.{Keeps, Move, Run, Refusal, Want, Read, Write, ring_room, no_bytes, filled_if, filled_then, took_by, says_behind, still_in, ring_by, BegunBy, BegunFrom, ending_run}
-use Rattle.conn_core.specs.Moments.{ended_by}
-use Rattle.conn_core.specs.Place.{IsSaying, IsHearing, state_at}
-use Rattle.conn_core.specs.Rests.{Begins}
+use Rattle.conn_core.specs.Inner.{IsFilledAt}
+use Rattle.conn_core.specs.Keeps.{Move, Run, ring_by}
+use Rattle.conn_core.specs.Place.{IsHearing, state_at}
 use Rattle.conn_core.specs.Shown.{Shown, owed_at, ring_at}
-use Rattle.conn_core.specs.Steps.{FeedsHeld, BeginsAs, BeginsAt, Tells, TellsEnd, HandsOn, EndsOn, FillsTo, CompletesTo}
-use Rattle.conn_core.proofs.FilledLemmas.{shown_at}
-use Rattle.conn_core.proofs.MoveLemmas.{owed_left, fills_front, some_not}
-use Rattle.conn_core.proofs.SaidLemmas.{filled_ring, filled_owes}
+use Rattle.conn_core.specs.Steps.{FeedsHeld, BeginsAt, Tells, TellsEnd, HandsOn, EndsOn}
 
 -- the ring is shown while the connection lives
 pub ring_at_live : {B H : Type 0} (b : At B H) (ring : List ℕ) → state_at b ≢ state.Over → ring_at b ring ≡ ring

@@ -33,10 +33,10 @@ use Rattle.conn_core.specs.Answers.{TurnedSo}
 use Rattle.conn_core.specs.Calls.{TurnEnds, RestsBehind, IsSpent, IsHandedOver, TurnTells, Turns}
 use Rattle.conn_core.specs.Keeps.{Drains, DrainsOnce}
 use Rattle.conn_core.specs.Inner.{IsFed, ReadLeaves, ReadsBy, TakesUp, TellsBy, TellsFrom, writes_of, HijackedOn, SaysOn, Says, Steps, IsSpentLeft, StepLeaves}
-use Rattle.conn_core.specs.Moves.{SameShown, StartsAs, IsOwing}
-use Rattle.conn_core.specs.Place.{IsSaying, IsHearing, state_at}
+use Rattle.conn_core.specs.Moves.{SameShown, StartsAs}
+use Rattle.conn_core.specs.Place.{IsHearing, state_at}
 use Rattle.conn_core.specs.Rests.{RestsAt}
-use Rattle.conn_core.specs.Shown.{Shown, Moved, replied_at, why_at}
+use Rattle.conn_core.specs.Shown.{Shown, Moved, replied_at}
 use Rattle.conn_core.proofs.ShownLemmas.{counted_sum}
 use Rattle.conn_core.proofs.MovingLemmas.{full, TurnMade}
 use Rattle.conn_core.proofs.MovedLemmas.{counted_lists, moved_same, moved_by, moved_then, ends_then, drains_then, drains_same, drains_run}

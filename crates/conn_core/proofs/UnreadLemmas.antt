@@ -1,53 +1,31 @@
 -- What stands where no byte was ever read.
-use Rattle.std.proofs.Common.{◌≡◌, ◌≢◌, ℕ, ◌+◌, ◌-◌, ◌^◌, ◌<◌, ◌≤◌, min, zero, suc, Bool, true, false, List, [], ◌∷◌, ◌++◌, length, refl, sym, ap, subst, ◌∙◌, arith, length-append, Option, None, Some, inl, inr}
-use Rattle.std.specs.Prelude.{is_some, ◌==◌}
-use Rattle.std.proofs.lemmas.Bool.Decides.{nat_tests}
+use Rattle.std.proofs.Common.{◌≡◌, ◌≢◌, ℕ, ◌-◌, ◌^◌, ◌≤◌, min, suc, Bool, List, [], ◌∷◌, ◌++◌, length, refl, sym, ap, subst, ◌∙◌, arith, length-append, Option, None, Some}
+use Rattle.std.specs.Prelude.{is_some}
 use Rattle.std.specs.Prelude.{slice_index_or}
 use Rattle.std.proofs.lemmas.List.{append-nil, nil_from_length}
 use Rattle.rack_types.specs.declared.body.Body.{Ghosts}
-use Rattle.rack_types.specs.declared.fault.Fault.TheVariants.{T1}
-use Rattle.rack_types.specs.declared.peer.Local.{Local}
 use Rattle.rack_types.specs.Request.{Parts}
-use Rattle.message_framing.specs.declared.intake.Intake.{Intake}
-use Rattle.message_framing.specs.HeadText.{skipped}
-use Rattle.message_framing.specs.Intake.{Fed}
-use Rattle.reply_framing.specs.declared.types.After.{After}
-use Rattle.reply_framing.specs.declared.types.After.TheVariants.{Keep, Close, Hijack}
-use Rattle.reply_framing.specs.Reply.{body_after}
-use Rattle.reply_framing.specs.Fault.{fault_reply}
 use Rattle.rack_outside.specs.Link.{Seen}
-use Rattle.message_framing.specs.Request.{IsRequest, Refusal, Wanting, Begun}
+use Rattle.message_framing.specs.Request.{IsRequest, Refusal, Begun}
 use Rattle.message_framing.proofs.CallerLemmas.{wanting_nil, begins_whole}
 use Rattle.talk_core.specs.declared.ended.Life.{Life}
 use Rattle.talk_core.specs.declared.ended.Why.TheVariants as why
-use Rattle.talk_core.specs.Ended.{AreLives, IdleAs, NeedsDrain, SentWhole}
-use Rattle.talk_core.specs.declared.ended.IdleBy.{IdleBy}
-use Rattle.talk_core.specs.declared.ended.IdleBy.TheVariants.{Clock, Drain}
-use Rattle.talk_core.specs.declared.ended.Why.{Why}
+use Rattle.talk_core.specs.Ended.{AreLives}
 use Rattle.talk_core.specs.Stands.{Word, asked_by, silent, replies, refuses, times_out, hands_over, Stands, ClosesAt}
-use Rattle.talk_core.specs.Tail.{Voice, goes_on}
-use Rattle.talk_core.specs.Talk.{Asks, Stop, wanting, hijacked, replies_to}
+use Rattle.talk_core.specs.Tail.{Voice}
+use Rattle.talk_core.specs.Talk.{Asks, replies_to}
 use Rattle.talk_core.specs.Teller.{Stacks, Teller, tell, last_phase}
 use Rattle.conn_core.specs.declared.inside.Inside.{Inside}
-use Rattle.talk_core.proofs.CallerLemmas.{stands_timed, asks_snoc}
 use Rattle.conn_core.specs.declared.moments.Ending.{Ending}
 use Rattle.conn_core.specs.declared.moments.Late.{Late}
 use Rattle.conn_core.specs.declared.place.At.{At}
 use Rattle.conn_core.specs.declared.place.At.TheVariants as at
-use Rattle.conn_core.specs.declared.state.State.{State}
 use Rattle.conn_core.specs.declared.state.State.TheVariants as state
-use Rattle.conn_core.specs.Holds.{Kept, kept, past, Between, Replying, Handed, Refuses, HoldsAt, StandsAt, HoldsBy}
-use Rattle.conn_core.specs.Owner.{IsUnread, PlacedIn, ReadsOn, StandsNext, drained, drained_from, drained_in, drained_hijacked, drained_reading}
-use Rattle.conn_core.specs.Place.{state_at, left_at}
-use Rattle.conn_core.specs.Plain.{EndsPlainly}
-use Rattle.conn_core.specs.Rests.{GoesOn, after_of, RestsAt, BegunAs, Begins}
-use Rattle.conn_core.specs.Keeps.{BegunNow, no_bytes}
-use Rattle.conn_core.specs.Shown.{Shown, shows, owed_at, fault_at}
+use Rattle.conn_core.specs.Holds.{Kept, kept, Between, Refuses, HoldsAt, StandsAt, HoldsBy}
+use Rattle.conn_core.specs.Owner.{IsUnread, PlacedIn}
+use Rattle.conn_core.specs.Place.{state_at}
+use Rattle.conn_core.specs.Shown.{Shown, shows, owed_at}
 use Rattle.conn_core.proofs.ConnLemmas.{Part, PartOf, live_part}
-use Rattle.conn_core.proofs.HijackLemmas.{parted}
-use Rattle.conn_core.proofs.PlaceLemmas.{over_same, unclosed}
-use Rattle.conn_core.proofs.MoveLemmas.{reading_place}
-use Rattle.conn_core.proofs.ReadLemmas.{sent_whole}
 use Rattle.conn_core.proofs.RetellLemmas.{retold}
 
 pub none_before : (xs ys : List ℕ) → [] ≡ xs ++ ys → xs ≡ []

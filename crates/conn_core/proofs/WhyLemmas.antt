@@ -1,46 +1,12 @@
 -- A place that is not Over names no why.
-use Rattle.std.proofs.Common.{◌≡◌, ◌≢◌, ◌↔◌, ℕ, ◌+◌, ◌-◌, ◌<◌, ◌≤◌, Bool, true, false, IsTrue, List, [], ◌∷◌, length, refl, sym, ap, subst, ◌∙◌, arith, Option, None, Some, ◌⊎◌, inl, inr, ltb}
-use Rattle.std.specs.Prelude.{◌==◌, ◌||◌}
-use Rattle.std.proofs.lemmas.Bool.Decides.{Decides-ltb, nat_tests}
-use Rattle.rack_outside.specs.Link.{Seen}
-use Rattle.rack_outside.specs.Told.{Rose}
-use Rattle.rack_outside.specs.declared.link.LinkRead.{LinkRead}
-use Rattle.rack_outside.specs.declared.link.LinkRead.TheVariants as read
-use Rattle.rack_outside.proofs.CallerLemmas.{rose_within}
-use Rattle.rack_types.specs.declared.peer.Local.{Local}
-use Rattle.rack_types.specs.Env.{Pairs}
-use Rattle.rack_types.specs.declared.answer.Answer.{Answer}
-use Rattle.rack_types.specs.Body.{Content}
-use Rattle.rack_env.specs.Environment.{env_pairs}
-use Rattle.message_framing.specs.declared.intake.Intake.{Intake}
-use Rattle.reply_framing.specs.Reply.{reply}
-use Rattle.talk_core.specs.Counts.{counted_by}
-use Rattle.talk_core.specs.declared.ended.Why.{Why}
-use Rattle.talk_core.specs.Teller.{Stack, Teller, reply_of, ask_of, is_last}
-use Rattle.conn_core.specs.declared.left.Left.{Left}
-use Rattle.conn_core.specs.declared.left.Said.{Said}
-use Rattle.conn_core.specs.declared.left.Step.{Step}
-use Rattle.conn_core.specs.declared.left.Step.TheVariants as step
-use Rattle.conn_core.specs.declared.moments.Ending.{Ending}
-use Rattle.conn_core.specs.declared.moments.Late.{Late}
+use Rattle.std.proofs.Common.{◌≡◌, ◌≢◌, refl, sym, ◌∙◌, None, inl, inr}
 use Rattle.conn_core.specs.declared.place.At.{At}
 use Rattle.conn_core.specs.declared.place.At.TheVariants as at
-use Rattle.conn_core.specs.declared.state.Next.{Next}
-use Rattle.conn_core.specs.declared.state.Next.TheVariants as next
 use Rattle.conn_core.specs.declared.state.State.{State}
 use Rattle.conn_core.specs.declared.state.State.TheVariants as state
-use Rattle.conn_core.specs.Answers.{TurnedSo}
-use Rattle.conn_core.specs.Calls.{TurnEnds, RestsBehind, IsSpent, IsHandedOver, TurnTells, Turns}
-use Rattle.conn_core.specs.Keeps.{Drains, DrainsOnce}
-use Rattle.conn_core.specs.Inner.{IsFed, ReadLeaves, ReadsBy, TakesUp, TellsBy, TellsFrom, writes_of, HijackedOn, SaysOn, Says, Steps, IsSpentLeft, StepLeaves}
-use Rattle.conn_core.specs.Moves.{SameShown, StartsAs, IsOwing}
-use Rattle.conn_core.specs.Place.{IsSaying, IsHearing, state_at}
-use Rattle.conn_core.specs.Rests.{RestsAt}
-use Rattle.conn_core.specs.Shown.{Shown, Moved, replied_at, why_at}
-use Rattle.conn_core.proofs.ShownLemmas.{counted_sum}
-use Rattle.conn_core.proofs.MovingLemmas.{full, TurnMade}
-use Rattle.conn_core.proofs.MovedLemmas.{counted_lists, moved_same, moved_by, moved_then, ends_then, drains_then, drains_same, drains_run}
-use Rattle.conn_core.proofs.PlaceLemmas.{unclosed, untimed}
+use Rattle.conn_core.specs.Moves.{IsOwing}
+use Rattle.conn_core.specs.Place.{IsSaying, state_at}
+use Rattle.conn_core.specs.Shown.{Shown, why_at}
 
 -- a place that isn't Over names no why
 pub no_why : {B H : Type 0} (a : At B H) → state_at a ≢ state.Over → why_at a ≡ None

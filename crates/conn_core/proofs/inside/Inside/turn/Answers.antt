@@ -16,18 +16,18 @@ loop-self-init g c =
     let p = c.args.self.now in
     let made = start_makes c.args.now (shows c.args.self.now) (shows c.start.new.self) (g.L.Link.seen c.args.link.now) c.new-left.result c.start.new.left
     c.new-left.ensures c.start.ensures.takes c.start.ensures.left c.start.ensures.few c.requires.ready (owes_rightly c.start.new.self) in record {
-  holds = λ e T tells h. c.start.ensures.holds T (g.L.Link.seen c.args.link.now) tells h;
-  any = λ T h. c.start.ensures.any T (g.L.Link.seen c.args.link.now) h;
-  turning = turning_start c.args.now (shows c.args.self.now) (shows c.start.new.self) (g.L.Link.seen c.args.link.now) c.new-left.result c.start.new.left
-      c.new-left.ensures c.start.ensures.takes c.start.ensures.left c.start.ensures.few
-      (ready_unended p.at p.intake p.held p.ring.items p.calls p.ending p.rests c.requires.ready).0;
-  moving = moving_start c.args.now (shows c.args.self.now) (shows c.start.new.self) (g.L.Link.seen c.args.link.now) c.start.new.left made;
-  rightly = λ T h.
-      rightly_start c.args.now (shows c.args.self.now) (shows c.start.new.self) (g.L.Link.seen c.args.link.now) c.start.new.left
-      (begins_rightly (record { says = g.H.Hijack.says; ends = g.H.Hijack.ends }) T (g.L.Link.seen c.args.link.now) c.args.self.now h) made;
-  counts = c.start.ensures.counts ∙ ap (λ (l : Left). g.R.Runner.runs c.args.runner.now + l.runs) c.new-left.ensures;
-  steady = c.start.ensures.steady;
-}
+      holds = λ e T tells h. c.start.ensures.holds T (g.L.Link.seen c.args.link.now) tells h;
+      any = λ T h. c.start.ensures.any T (g.L.Link.seen c.args.link.now) h;
+      turning = turning_start c.args.now (shows c.args.self.now) (shows c.start.new.self) (g.L.Link.seen c.args.link.now) c.new-left.result c.start.new.left
+          c.new-left.ensures c.start.ensures.takes c.start.ensures.left c.start.ensures.few
+          (ready_unended p.at p.intake p.held p.ring.items p.calls p.ending p.rests c.requires.ready).0;
+      moving = moving_start c.args.now (shows c.args.self.now) (shows c.start.new.self) (g.L.Link.seen c.args.link.now) c.start.new.left made;
+      rightly = λ T h.
+          rightly_start c.args.now (shows c.args.self.now) (shows c.start.new.self) (g.L.Link.seen c.args.link.now) c.start.new.left
+          (begins_rightly (record { says = g.H.Hijack.says; ends = g.H.Hijack.ends }) T (g.L.Link.seen c.args.link.now) c.args.self.now h) made;
+      counts = c.start.ensures.counts ∙ ap (λ (l : Left). g.R.Runner.runs c.args.runner.now + l.runs) c.new-left.ensures;
+      steady = c.start.ensures.steady;
+    }
 
 pub step-requires : goal.step-requires
 step-requires g c = omega (arith, c.loop-self.invariant.counts, c.requires.room)
