@@ -26,22 +26,22 @@ use Rattle.conn_core.specs.Steps.{IsWritten, Written, WrittenTo, FillsFrom, Fill
 use Rattle.conn_core.proofs.BeginLemmas.{unsaid}
 use Rattle.conn_core.proofs.SayLemmas.{with_ring}
 
--- a framer that was filled from and has no more to append was left
-pub fills_leaving : {B H : Type 0} (f new : Coming H) (result : Filled) (x y : Buffer ℕ) (b : At B H) → result ≢ Full → Fills f.rest (Ok result) new.rest x y
+-- what is behind a framer that was filled from and has no more to append
+pub fills_written : {B H : Type 0} (f new : Coming H) (result : Filled) (x y : Buffer ℕ) (b : At B H) → result ≢ Full → Fills f.rest (Ok result) new.rest x y
     → new.after ≡ after_then (Ok result) f.after → new.hijacker ≡ f.hijacker → IsWritten new b → FillsFrom f x b y
-fills_leaving {B} {H} f new result x y at.Reading unfilled fills after who w = absurd w
-fills_leaving {B} {H} f new result x y at.Asked unfilled fills after who w = absurd w
-fills_leaving {B} {H} f new result x y (at.Refused fault) unfilled fills after who w = absurd w
-fills_leaving {B} {H} f new result x y (at.Answering framer) unfilled fills after who w = absurd w
-fills_leaving {B} {H} f new result x y (at.Writing keeps) unfilled fills after who w =
+fills_written {B} {H} f new result x y at.Reading unfilled fills after who w = absurd w
+fills_written {B} {H} f new result x y at.Asked unfilled fills after who w = absurd w
+fills_written {B} {H} f new result x y (at.Refused fault) unfilled fills after who w = absurd w
+fills_written {B} {H} f new result x y (at.Answering framer) unfilled fills after who w = absurd w
+fills_written {B} {H} f new result x y (at.Writing keeps) unfilled fills after who w =
     record { new = new; result = result; unfilled = unfilled; fills = fills; after_is = after; hijacker_is = who; keeps_is = w }
-fills_leaving {B} {H} f new result x y (at.Handing h) unfilled fills after who w =
+fills_written {B} {H} f new result x y (at.Handing h) unfilled fills after who w =
     record { new = new; result = result; unfilled = unfilled; fills = fills; after_is = after; hijacker_is = who; taken = w.0; who = w.1 }
-fills_leaving {B} {H} f new result x y at.Refusing unfilled fills after who w = absurd w
-fills_leaving {B} {H} f new result x y (at.Taken h) unfilled fills after who w = absurd w
-fills_leaving {B} {H} f new result x y (at.Speaking h) unfilled fills after who w = absurd w
-fills_leaving {B} {H} f new result x y at.Parting unfilled fills after who w = absurd w
-fills_leaving {B} {H} f new result x y (at.Over ended) unfilled fills after who w = absurd w
+fills_written {B} {H} f new result x y at.Refusing unfilled fills after who w = absurd w
+fills_written {B} {H} f new result x y (at.Taken h) unfilled fills after who w = absurd w
+fills_written {B} {H} f new result x y (at.Speaking h) unfilled fills after who w = absurd w
+fills_written {B} {H} f new result x y at.Parting unfilled fills after who w = absurd w
+fills_written {B} {H} f new result x y (at.Over ended) unfilled fills after who w = absurd w
 
 -- behind the last fill `after` is what the reply tells, over what was to come
 after_by_rule : {H : Type 0} (f new : Coming H) (result : Filled) (x y : Buffer ℕ) → result ≢ Full → Fills f.rest (Ok result) new.rest x y

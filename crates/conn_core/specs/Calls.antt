@@ -135,10 +135,10 @@ pub record Turns (now : ℕ) (result : Next) (old new : Shown) (s s' : Seen) : T
   pub ends : TurnEnds None new.why s s'
   pub tells : TurnTells result runs reads writes moved.came old new s s'
 
--- these moves lead from a moment to another, and at each moment at which one is made, what is read on, stands or is
--- refused is what comes behind the requests that were run
+-- these moves lead from a moment to another, and at each of their moments what is read on, stands or is refused is what
+-- comes behind the requests that were run
 abbrev pub GoesRightly : ℕ → List Move → Moment → Moment → Type 0
-GoesRightly now [] m n = n ≡ m
+GoesRightly now [] m n = (n ≡ m) × BeginsRightly n.seen n.shown
 GoesRightly now (move ∷ moves) m n =
     BeginsRightly m.seen m.shown × (next : Moment) × Makes now move m next × OwesRightly next.shown × GoesRightly now moves next n
 
@@ -151,6 +151,7 @@ pub record TurnsRightly (now : ℕ) (old new : Shown) (s s' : Seen) : Type 0 whe
   pub moves : List Move
   pub waited : Bool
   pub made : GoesRightly now moves (turn_at old s 0 0 0 false) (turn_at new s' runs reads writes waited)
+  pub stops : TurnStops (turn_at new s' runs reads writes waited)
 
 -- what a `flush` leaves, by the state before it: behind a reply the connection rests as behind one, and a hijacker that
 -- has it keeps it

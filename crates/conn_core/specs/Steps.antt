@@ -153,18 +153,18 @@ IsWritten {B} {H} f at.Parting = ⊥
 IsWritten {B} {H} f (at.Over ended) = ⊥
 
 -- the same of the framer at a place
-abbrev pub Leaves : {B H : Type 0} → At B H → At B H → Type 0
-Leaves {B} {H} at.Reading new = ⊥
-Leaves {B} {H} at.Asked new = ⊥
-Leaves {B} {H} (at.Refused fault) new = ⊥
-Leaves {B} {H} (at.Answering f) new = IsWritten f new
-Leaves {B} {H} (at.Writing keeps) new = ⊥
-Leaves {B} {H} (at.Handing h) new = ⊥
-Leaves {B} {H} at.Refusing new = ⊥
-Leaves {B} {H} (at.Taken h) new = ⊥
-Leaves {B} {H} (at.Speaking h) new = ⊥
-Leaves {B} {H} at.Parting new = ⊥
-Leaves {B} {H} (at.Over ended) new = ⊥
+abbrev pub IsWrittenAt : {B H : Type 0} → At B H → At B H → Type 0
+IsWrittenAt {B} {H} at.Reading new = ⊥
+IsWrittenAt {B} {H} at.Asked new = ⊥
+IsWrittenAt {B} {H} (at.Refused fault) new = ⊥
+IsWrittenAt {B} {H} (at.Answering f) new = IsWritten f new
+IsWrittenAt {B} {H} (at.Writing keeps) new = ⊥
+IsWrittenAt {B} {H} (at.Handing h) new = ⊥
+IsWrittenAt {B} {H} at.Refusing new = ⊥
+IsWrittenAt {B} {H} (at.Taken h) new = ⊥
+IsWrittenAt {B} {H} (at.Speaking h) new = ⊥
+IsWrittenAt {B} {H} at.Parting new = ⊥
+IsWrittenAt {B} {H} (at.Over ended) new = ⊥
 
 -- a framer hands the connection over
 abbrev pub IsHanded : {B H : Type 0} → At B H → Type 0

@@ -169,9 +169,9 @@ impl<L: Link, B: Body, H: Hijack + Drop> Conn<L, B, H> {
     /// behind a read or a write that had to wait. It stops only there, where a hijacker has the connection and
     /// nothing is owed, or where the connection is over, as where memory is refused.
     ///
-    /// Whatever the runner answers, each run belongs to the next request, also within the turn: at each of its
-    /// moves the bytes held are all that stand behind the request that is run. Where the runner is steady, the
-    /// connection goes on standing for its talk over the runner's answers.
+    /// Whatever the runner answers, each run belongs to the next request. Where it is steady, the connection goes on
+    /// standing for its talk over the runner's answers. Where the connection held before and its link tells what
+    /// it gave, the bytes held at each run are all that stand behind its request then.
     pub fn turn<R: Runner<B, H>>(&mut self, runner: &mut R, now: u64) -> Next
         requires ready { (shown self.old).state ≡ State.Ready }
         requires room { R.runs runner.old ≤ 2 ^ 64 - 11 }
@@ -280,7 +280,7 @@ impl<L: Link, B: Body, H: Hijack + Drop> Conn<L, B, H> {
         ensures talk { (S : Stacks H) → (shown self.now).state ≢ State.Over → Holds L.seen (record { says = H.says; ends = H.ends }) S self.now
             → StandsForTalk (L.seen (link_of self.now)) (record { says = H.says; ends = H.ends }) S (shown self.now).local (shown self.now).lives (shown self.now).calls
             (shown self.now).ending.closing (is_some (shown self.now).ending.late) }
-        ensures begun { (S : Stacks H) → Holds L.seen (record { says = H.says; ends = H.ends }) S self.now → BeginsRightly (L.seen (link_of self.now)) (shown self.now) }
+        ensures begun { (T : Teller H) → HoldsWith L.seen (record { says = H.says; ends = H.ends }) T self.now → BeginsRightly (L.seen (link_of self.now)) (shown self.now) }
     {
         let _state = self.state();
     }

@@ -8,7 +8,7 @@ ghost use Rattle.message_framing.specs.Intake.{Fed, StandsWhole};
 ghost use Rattle.message_framing.specs.Request.{IsRequest};
 ghost use Rattle.talk_core.specs.Teller.{ask_of};
 ghost use Rattle.conn_core.specs.Place.{IsFraming};
-ghost use Rattle.conn_core.specs.Steps.{FeedsHeld, BeginsAs, TakesAll, BeginsTaken, BeginsAt, Leaves, IsHanded, FillsTo, HasRequest, CompletesTo};
+ghost use Rattle.conn_core.specs.Steps.{FeedsHeld, BeginsAs, TakesAll, BeginsTaken, BeginsAt, IsWrittenAt, IsHanded, FillsTo, HasRequest, CompletesTo};
 
 use crate::held::Held;
 use crate::hijack::tell;
@@ -165,8 +165,8 @@ pub(crate) fn fill<B: Body, H: Drop>(at: &mut At<B, H>, ring: &mut HeapCircularB
     match at {
         At::Answering(framer) => match framer.fill(ring) {
             Ok(Filled::Full) => {}
-            Ok(Filled::Done) => leave(at),
-            Ok(Filled::Broke(_)) => leave(at),
+            Ok(Filled::Done) => written(at),
+            Ok(Filled::Broke(_)) => written(at),
             Err(_) => put(at, At::Over(Why::NoMemory)),
         },
         At::Reading
@@ -182,10 +182,11 @@ pub(crate) fn fill<B: Body, H: Drop>(at: &mut At<B, H>, ring: &mut HeapCircularB
     }
 }
 
-// Leaves a framer that has no more to append: the connection goes on or closes, or a hijacker takes it over.
-fn leave<B: Body, H: Drop>(at: &mut At<B, H>)
+// Goes to what is behind a framer that has no more to append: the connection goes on or closes, or a hijacker takes it
+// over.
+fn written<B: Body, H: Drop>(at: &mut At<B, H>)
     requires { IsFraming at.old }
-    ensures { Leaves at.old at.new }
+    ensures { IsWrittenAt at.old at.new }
 {
     match at {
         At::Answering(framer) => match framer.after() {
@@ -203,7 +204,7 @@ fn leave<B: Body, H: Drop>(at: &mut At<B, H>)
 // The place of a connection that a framer hands to its hijacker.
 fn hand<B: Body, H: Drop>(at: At<B, H>) -> At<B, H>
     requires { IsHanded at }
-    ensures { Leaves at result }
+    ensures { IsWrittenAt at result }
 {
     match at {
         At::Answering(framer) => match framer.finish() {

@@ -118,3 +118,37 @@ fn tells_what_came_and_was_run(rt: HostRuntime) {
         None => assert!(rt; false),
     }
 }
+
+// What its link sent, handed back at any moment.
+fn left(conn: MemConn) -> usize {
+    conn.leave().sent().len()
+}
+
+#[test]
+fn hands_its_link_back_at_any_moment(rt: HostRuntime) {
+    let alloc = rt.alloc();
+    for (steps, sent) in [
+        (&[Is(State::Reading)][..], 0),
+        (&[Gives(POST), Feed(200, Next::Ready)][..], 0),
+        (
+            &[
+                Takes(1),
+                Gives(POST),
+                Feed(200, Next::Ready),
+                Turn(300, Next::Waiting),
+            ][..],
+            1,
+        ),
+    ] {
+        let conn: Option<MemConn> = opened(alloc);
+        match conn {
+            Some(mut conn) => {
+                for step in steps {
+                    assert!(rt; goes(alloc, App::Echoes, &mut conn, *step));
+                }
+                assert_eq!(rt; left(conn), sent);
+            }
+            None => assert!(rt; false),
+        }
+    }
+}

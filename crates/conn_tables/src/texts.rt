@@ -23,8 +23,7 @@ pub(crate) const ONE_AND_LINE: &str = "GET / HTTP/1.1\r\nHost: a\r\n\r\n\r\n";
 pub(crate) const ONE_AND_WORD: &str = "GET / HTTP/1.1\r\nHost: a\r\n\r\nab";
 
 /// One with a word behind which a hijacker says no more, and a byte behind that.
-pub(crate) const ONE_AND_LAST_WORD: &str =
-    "GET / HTTP/1.1\r\nHost: a\r\n\r\nabcdefghijkl\u{4}m";
+pub(crate) const ONE_AND_LAST_WORD: &str = "GET / HTTP/1.1\r\nHost: a\r\n\r\nabcdefghijkl\u{4}m";
 
 /// One without a host, which is refused.
 pub(crate) const REFUSED: &str = "GET / HTTP/1.1\r\n\r\n";

@@ -1,5 +1,5 @@
 -- Ends of small connections: what each why asks, at its boundaries.
-use Rattle.std.proofs.Common.{◌≡◌, ◌≢◌, ℕ, Bool, true, false, List, [], ◌∷◌, ◌++◌, length, refl, sym, ap, subst, arith, None, Some, inl, inr, length-append}
+use Rattle.std.proofs.Common.{◌≡◌, ◌≢◌, ℕ, Bool, true, false, List, [], ◌∷◌, ◌++◌, length, refl, sym, ap, subst, ◌∙◌, arith, None, Some, inl, inr, length-append}
 use Rattle.std.proofs.lemmas.Bool.{false≢true}
 use Rattle.rack_types.specs.declared.fault.Fault.{Fault}
 use Rattle.rack_types.specs.declared.fault.Fault.TheVariants.{T1}
@@ -17,8 +17,9 @@ use Rattle.talk_core.specs.Answer.{IsHandedOver}
 use Rattle.talk_core.specs.Ended.{Past, SentWhole, SentWholeTo, Lacks, IsClosed, IsUntaken, past_of, NeedsDrain, EndsBy, AreEndedLives, IsTimed, WhyByDrain}
 use Rattle.talk_core.specs.Stands.{Word, silent, replies, refuses, times_out, hands_over, Stands}
 use Rattle.talk_core.specs.Tail.{Voice}
-use Rattle.talk_core.specs.Talk.{Asks, Stop, wanting, refused, closed, hijacked}
-use Rattle.talk_core.specs.Teller.{Teller}
+use Rattle.talk_core.specs.Talk.{Asks, Stop, wanting, refused, closed, hijacked, Talk, text}
+use Rattle.talk_core.specs.Teller.{Teller, fates_of}
+use Rattle.talk_core.proofs.CompareLemmas.{one_talk}
 
 -- a connection that was given and sent these bytes, and ran nothing
 abbrev had : List ℕ → List ℕ → Bool → ℕ → ℕ → Past
@@ -178,6 +179,19 @@ module _ {H : Type 0} (V : Voice H) (T : Teller H) where
 
   no_read_failed : (given sent : List ℕ) → ¬ (EndsBy why.ReadFailed V T (had given sent false 0 1))
   no_read_failed given sent e = omega (arith, e.0)
+
+  -- and not where something lacks of a talk that didn't stop at a hijack
+  not_read_failed_short : (b : List ℕ) (f : Fault) → Refusal b f → ¬ (EndsBy why.ReadFailed V T (had b [] false 1 0))
+  not_read_failed_short b f is e =
+      let talk : Talk (fates_of T) b [] (refused f) b = record { asks = refl; stops = (tt, is) } in
+      elim e.1 [
+        | inl w ↦
+            let same = one_talk (fates_of T) b w.3.asked [] w.0 (refused f) w.1 b w.3.talk talk in
+            some_reply f (sym (w.3.said_is ∙ ap (λ (rs : List Parts). text T rs w.0) same.0 ∙ ap (λ (stop : Stop). text T [] stop) same.1))
+        | inr l ↦
+            let same : hijacked ≡ refused f = (one_talk (fates_of T) b l.2.0 [] hijacked (refused f) l.2.1 b l.2.2 talk).1 in
+            cc
+      ]
 
   -- WriteFailed: a write failed, and something lacks
   write_failed : (b : List ℕ) (f : Fault) → Refusal b f → EndsBy why.WriteFailed V T (had b [] false 0 1)

@@ -21,7 +21,7 @@ use Rattle.talk_core.specs.Teller.{Stacks, Teller, tell, fates_of}
 
 -- what a connection has behind it: the bytes that it was given and those that it sent, whether a read answered that
 -- the peer ended, how many of its link's reads and writes failed, how many requests were run, the level of draining
--- that it was last told since its opening or its last placing, and the request whose reply closed it by draining
+-- that it was last told since its opening or its last placing, and the request that was the last by draining
 pub record Past : Type 0 where
   pub given : List ℕ
   pub sent : List ℕ

@@ -7,5 +7,5 @@ returns-clause-talk g c = λ S live h.
     live_stands (record { says = g.H.Hijack.says; ends = g.H.Hijack.ends }) S (g.L.Link.seen c.args.self.now.link) c.args.self.now.inside.value live h.lives_are h.stands
 
 pub returns-clause-begun : goal.returns-clause-begun
-returns-clause-begun g c = λ S h.
-    begins_rightly (record { says = g.H.Hijack.says; ends = g.H.Hijack.ends }) _ (g.L.Link.seen c.args.self.now.link) c.args.self.now.inside.value h.stands
+returns-clause-begun g c = λ T h.
+    begins_rightly (record { says = g.H.Hijack.says; ends = g.H.Hijack.ends }) T (g.L.Link.seen c.args.self.now.link) c.args.self.now.inside.value h

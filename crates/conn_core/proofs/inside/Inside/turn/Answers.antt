@@ -24,7 +24,9 @@ loop-self-init g c =
       moving = moving_start c.args.now (shows c.args.self.now) (shows c.start.new.self) (g.L.Link.seen c.args.link.now) c.start.new.left made;
       rightly = λ T h.
           rightly_start c.args.now (shows c.args.self.now) (shows c.start.new.self) (g.L.Link.seen c.args.link.now) c.start.new.left
-          (begins_rightly (record { says = g.H.Hijack.says; ends = g.H.Hijack.ends }) T (g.L.Link.seen c.args.link.now) c.args.self.now h) made;
+          (begins_rightly (record { says = g.H.Hijack.says; ends = g.H.Hijack.ends }) T (g.L.Link.seen c.args.link.now) c.args.self.now h) made
+          (runs_rightly (record { says = g.H.Hijack.says; ends = g.H.Hijack.ends }) T c.args.self.now.calls (g.L.Link.seen c.args.link.now) c.start.new.self
+          (c.start.ensures.any T (g.L.Link.seen c.args.link.now) h));
       counts = c.start.ensures.counts ∙ ap (λ (l : Left). g.R.Runner.runs c.args.runner.now + l.runs) c.new-left.ensures;
       steady = c.start.ensures.steady;
     }
@@ -62,9 +64,10 @@ loop-self-preserved g c =
       rightly = λ T h.
           rightly_step c.args.now (left_at (shows c.args.self.now) (g.L.Link.seen c.args.link.now) full false)
           (left_at (shows c.loop-self.self) (g.L.Link.seen c.loop-self.link) c.loop-self.left false)
-          (left_at (shows c.step.new.self) (g.L.Link.seen c.step.new.link) c.step.new.left false) (i.rightly T h)
-          (runs_rightly (record { says = g.H.Hijack.says; ends = g.H.Hijack.ends }) T c.args.self.now.calls (g.L.Link.seen c.loop-self.link) c.loop-self.self (i.any T h))
-          c.in-GoesOn.ensures.moves;
+          (left_at (shows c.step.new.self) (g.L.Link.seen c.step.new.link) c.step.new.left false) (i.rightly T h) c.in-GoesOn.ensures.moves
+          (runs_rightly (record { says = g.H.Hijack.says; ends = g.H.Hijack.ends }) T c.args.self.now.calls (g.L.Link.seen c.step.new.link) c.step.new.self
+          (more_runs (record { says = g.H.Hijack.says; ends = g.H.Hijack.ends }) T c.args.self.now.calls c.loop-self.self.calls (g.L.Link.seen c.loop-self.link) (g.L.Link.seen c.step.new.link) c.loop-self.self c.step.new.self
+          grew (i.any T h) (λ U u. c.step.ensures.any U u)));
       counts = counts;
       steady = λ e ps input. c.step.ensures.steady e ps input ∙ i.steady e ps input;
     }
@@ -103,6 +106,7 @@ pub returns-in-Waits-clause-rightly : goal.returns-in-Waits-clause-rightly
 returns-in-Waits-clause-rightly g c = λ T h.
     let V : Voice g.row.H.Denot = record { says = g.H.Hijack.says; ends = g.H.Hijack.ends } in
     let i = c.loop-self.invariant in
+    let grew : c.args.self.now.calls ≤ c.loop-self.self.calls = omega (arith, i.turning.calls, i.turning.few) in
     let l = c.loop-self.left in
     let k = c.step.new.left in
     let few : (k.runs ≤ 10) × (k.reads ≤ 160) × (k.writes ≤ 160) = (
@@ -111,8 +115,10 @@ returns-in-Waits-clause-rightly g c = λ T h.
       omega (arith, i.turning.few.2, c.step.ensures.steps.few.2),
     ) in
     rightly_end c.args.now c.step.result (shows c.args.self.now) (shows c.loop-self.self) (shows c.step.new.self) (g.L.Link.seen c.args.link.now)
-    (g.L.Link.seen c.loop-self.link) (g.L.Link.seen c.step.new.link) l k c.in-Waits.is few (i.rightly T h)
-    (runs_rightly V T c.args.self.now.calls (g.L.Link.seen c.loop-self.link) c.loop-self.self (i.any T h)) c.step.ensures.moves
+    (g.L.Link.seen c.loop-self.link) (g.L.Link.seen c.step.new.link) l k c.in-Waits.is few (i.rightly T h) c.step.ensures.moves
+    (runs_rightly V T c.args.self.now.calls (g.L.Link.seen c.step.new.link) c.step.new.self
+    (more_runs V T c.args.self.now.calls c.loop-self.self.calls (g.L.Link.seen c.loop-self.link) (g.L.Link.seen c.step.new.link) c.loop-self.self c.step.new.self
+    grew (i.any T h) (λ U u. c.step.ensures.any U u)))
 
 pub returns-in-Waits-clause-counts : goal.returns-in-Waits-clause-counts
 returns-in-Waits-clause-counts g c =
