@@ -12,7 +12,7 @@ use Rattle.conn_core.specs.declared.state.Next.TheVariants as next
 use Rattle.conn_core.specs.declared.state.State.{State}
 use Rattle.conn_core.specs.declared.state.State.TheVariants as state
 use Rattle.conn_core.specs.Answers.{FlushedSo}
-use Rattle.conn_core.specs.Calls.{TurnEnds, RestsBehind, IsHandedOver, Leaves, IsStillOwing, FlushTells, Flushes, IsOfFlush}
+use Rattle.conn_core.specs.Calls.{TurnEnds, RestsBehind, IsListening, Leaves, IsStillOwing, FlushTells, Flushes, IsOfFlush}
 use Rattle.conn_core.specs.Inner.{writes_of, SaysOn, SaidLeaves, Says}
 use Rattle.conn_core.specs.Keeps.{Drains}
 use Rattle.conn_core.specs.Moves.{IsOwing}
@@ -148,7 +148,7 @@ still_owing o n h = elim h [ inl saying ↦ inl saying | inr k ↦ inr (k.0, k.2
 
 module _ {B H : Type 0} (a : At B H) (o n : Shown) (s u : Seen) (w : ℕ) (handed : Bool) (h : Flushing o n s u w) (falls : Fallen o n w)
     (is : n.state ≡ state_at a) (owing : IsOwing o) (by : IsTrue handed ↔ (o.state ≡ state.Answering)) (says : IsSaying a → IsOwing n)
-    (hears : IsHearing a → IsHandedOver n) (stopped : Rose s.waits u.waits ⊎ (¬ (IsOwing n) ⊎ (w ≡ 16))) where
+    (hears : IsHearing a → IsListening n) (stopped : Rose s.waits u.waits ⊎ (¬ (IsOwing n) ⊎ (w ≡ 16))) where
   flush_tells : (result : Next) → FlushedSo result a w handed → FlushTells result w o n s u
   flush_tells next.Waiting f =
       let still : IsStillOwing o n =

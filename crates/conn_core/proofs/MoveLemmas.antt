@@ -20,7 +20,7 @@ use Rattle.conn_core.specs.declared.place.At.TheVariants as at
 use Rattle.conn_core.specs.declared.state.State.TheVariants as state
 use Rattle.conn_core.specs.Calls.{MayFeed}
 use Rattle.conn_core.specs.Inner.{IsFilledAt}
-use Rattle.conn_core.specs.Moves.{ring_room, FedTo, ToldTo, KeptTo, BehindWrite, OwesAs, OwesRightly, Move, Moment, Makes, Goes, IsOwing}
+use Rattle.conn_core.specs.Moves.{ring_room, FedTo, ToldTo, KeptTo, BehindWrite, OwesAs, OwesRightly, Move, Point, Makes, Goes, IsOwing}
 use Rattle.conn_core.specs.Moments.{ended_by}
 use Rattle.conn_core.specs.Place.{IsSaying, IsHearing, MayRead, state_at}
 use Rattle.conn_core.specs.Rests.{RestsAt}
@@ -31,12 +31,12 @@ use Rattle.conn_core.proofs.PlaceLemmas.{absent}
 use Rattle.conn_core.proofs.SaidLemmas.{filled_ring, filled_owes}
 
 -- moves, and more moves
-pub goes_then : (now : ℕ) (xs ys : List Move) (m k n : Moment) → Goes now xs m k → Goes now ys k n → Goes now (xs ++ ys) m n
-goes_then now [] ys m k n h i = subst (λ (j : Moment). Goes now ys j n) h i
+pub goes_then : (now : ℕ) (xs ys : List Move) (m k n : Point) → Goes now xs m k → Goes now ys k n → Goes now (xs ++ ys) m n
+goes_then now [] ys m k n h i = subst (λ (j : Point). Goes now ys j n) h i
 goes_then now (x ∷ xs) ys m k n h i = (h.0, h.1, h.2, goes_then now xs ys h.0 k n h.3 i)
 
 -- and one more
-pub goes_on : (now : ℕ) (xs : List Move) (x : Move) (m k n : Moment) → Goes now xs m k → Makes now x k n → OwesRightly n.shown
+pub goes_on : (now : ℕ) (xs : List Move) (x : Move) (m k n : Point) → Goes now xs m k → Makes now x k n → OwesRightly n.shown
     → Goes now (xs ++ x ∷ []) m n
 goes_on now xs x m k n h makes owes = goes_then now xs (x ∷ []) m k n h (n, makes, owes, refl)
 

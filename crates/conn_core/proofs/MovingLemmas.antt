@@ -11,7 +11,7 @@ use Rattle.conn_core.specs.declared.left.Step.TheVariants as step
 use Rattle.conn_core.specs.declared.state.State.{State}
 use Rattle.conn_core.specs.declared.state.State.TheVariants as state
 use Rattle.conn_core.specs.Inner.{IsSpentLeft, TakesUp, SaysOnce, left_at, MadeTo, StepMoves}
-use Rattle.conn_core.specs.Moves.{read_waits, ReadsOnce, write_waits, WritesOnce, OwesRightly, Move, Moment, IsOpen, MayWrite, Spends, Goes, turn_at, StopsIn, TurnStops, flush_at, FlushStops, IsOwing}
+use Rattle.conn_core.specs.Moves.{read_waits, ReadsOnce, write_waits, WritesOnce, OwesRightly, Move, Point, IsOpen, MayWrite, Spends, Goes, turn_at, StopsIn, TurnStops, flush_at, FlushStops, IsOwing}
 use Rattle.conn_core.specs.Moves.{Run, Refusal, Want, Read, Write}
 use Rattle.conn_core.specs.Keeps.{Keeps}
 use Rattle.conn_core.specs.Shown.{Shown}
@@ -107,14 +107,14 @@ unwritten_stops n s l owing none =
     ]
 
 -- the moves so far
-pub record Moving (now : ℕ) (first last : Moment) : Type 0 where
+pub record Moving (now : ℕ) (first last : Point) : Type 0 where
   pub moves : List Move
   pub made : Goes now moves first last
 
-pub moving_none : (now : ℕ) (m : Moment) → Moving now m m
+pub moving_none : (now : ℕ) (m : Point) → Moving now m m
 moving_none now m = record { moves = []; made = refl }
 
-pub moving_step : (now : ℕ) (first m n : Moment) → Moving now first m → MadeTo now m n → Moving now first n
+pub moving_step : (now : ℕ) (first m n : Point) → Moving now first m → MadeTo now m n → Moving now first n
 moving_step now first m n h k = record { moves = h.moves ++ k.0 ∷ []; made = goes_on now h.moves k.0 first m n h.made k.1 k.2 }
 
 -- what a turn may do
@@ -148,9 +148,9 @@ pub record TurnMade (now : ℕ) (o n : Shown) (s u : Seen) (runs reads writes : 
   pub stops : TurnStops (turn_at n u runs reads writes waited)
 
 -- what is left, by what was made
-pub turn_moment : (n : Shown) (u : Seen) (l : Left) (w : Bool) → (l.runs ≤ 10) × (l.reads ≤ 160) × (l.writes ≤ 160)
+pub turn_point : (n : Shown) (u : Seen) (l : Left) (w : Bool) → (l.runs ≤ 10) × (l.reads ≤ 160) × (l.writes ≤ 160)
     → left_at n u l w ≡ turn_at n u (10 - l.runs) (160 - l.reads) (160 - l.writes) w
-turn_moment n u l w few =
+turn_point n u l w few =
     let runs : l.runs ≡ 10 - (10 - l.runs) = omega (arith, few.0) in
     let reads : l.reads ≡ 160 - (160 - l.reads) = omega (arith, few.1) in
     let writes : l.writes ≡ 160 - (160 - l.writes) = omega (arith, few.2) in
@@ -161,11 +161,11 @@ turn_moment n u l w few =
 turn_made : (now : ℕ) (o n : Shown) (s u : Seen) (l : Left) (w : Bool) → (l.runs ≤ 10) × (l.reads ≤ 160) × (l.writes ≤ 160)
     → Moving now (left_at o s full false) (left_at n u l w) → TurnStops (left_at n u l w) → TurnMade now o n s u (10 - l.runs) (160 - l.reads) (160 - l.writes)
 turn_made now o n s u l w few h stops =
-    let is = turn_moment n u l w few in
+    let is = turn_point n u l w few in
     record {
       moves = h.moves;
       waited = w;
-      made = subst (λ (m : Moment). Goes now h.moves (left_at o s full false) m) is h.made;
+      made = subst (λ (m : Point). Goes now h.moves (left_at o s full false) m) is h.made;
       stops = subst TurnStops is stops;
     }
 
@@ -179,7 +179,7 @@ moving_end now step.Waits o m n s t u l k e few h p =
 moving_end now step.Stops o m n s t u l k e few h p =
     let same : left_at m t l false ≡ left_at n u k false =
     ap (λ (x : Shown). left_at x t l false) (sym p.0) ∙ ap (λ (x : Seen). left_at n x l false) (sym p.1) ∙ ap (λ (x : Left). left_at n u x false) (sym p.2) in
-    turn_made now o n s u k false few (subst (λ (x : Moment). Moving now (left_at o s full false) x) same h) p.3
+    turn_made now o n s u k false few (subst (λ (x : Point). Moving now (left_at o s full false) x) same h) p.3
 
 -- all moves of a flush
 pub record FlushMade (now : ℕ) (o n : Shown) (s u : Seen) (writes : ℕ) : Type 0 where
@@ -195,7 +195,7 @@ flush_may o s x few =
     record { reads = one; writes = some; unwaited = refl }
 
 -- one write of a flush
-pub flush_moving_step : (now : ℕ) (a : LinkWrite) (first : Moment) (m n : Shown) (t u : Seen) (x : ℕ) (w : Bool) → write_waits a ≡ w → WritesOnce a m n t u → Keeps now (Write a) m n
+pub flush_moving_step : (now : ℕ) (a : LinkWrite) (first : Point) (m n : Shown) (t u : Seen) (x : ℕ) (w : Bool) → write_waits a ≡ w → WritesOnce a m n t u → Keeps now (Write a) m n
     → IsOwing m → x < 16 → OwesRightly n → Moving now first (flush_at m t x false) → Moving now first (flush_at n u (x + 1) w)
 flush_moving_step now a first m n t u x w waits once keeps owing few owes h =
     let writes : 16 - x ≡ (16 - (x + 1)) + 1 = omega (arith, few) in
@@ -204,7 +204,7 @@ flush_moving_step now a first m n t u x w waits once keeps owing few owes h =
     moving_step now first (flush_at m t x false) (flush_at n u (x + 1) w) h (Write a, ((owing, flush_may m t x few, spends, once), keeps), owes)
 
 -- memory was refused in a flush
-pub flush_wants : (now : ℕ) (first : Moment) (m n : Shown) (t u : Seen) (x : ℕ) → SaysOnce now said.Unwritten m n t u → x < 16 → OwesRightly n
+pub flush_wants : (now : ℕ) (first : Point) (m n : Shown) (t u : Seen) (x : ℕ) → SaysOnce now said.Unwritten m n t u → x < 16 → OwesRightly n
     → Moving now first (flush_at m t x false) → Moving now first (flush_at n u x false)
 flush_wants now first m n t u x says few owes h =
     let writes : 16 - x ≡ (16 - x) + 0 = omega arith in

@@ -1,4 +1,4 @@
--- What is read on, stands or is refused at each moment of a turn.
+-- What is read on, stands or is refused at each point of a turn.
 use Rattle.std.proofs.Common.{◌≡◌, ℕ, ◌-◌, ◌≤◌, Bool, true, false, List, [], ◌∷◌, ◌++◌, refl, sym, ap, subst, ◌∙◌, arith, ◌⊎◌, inl, inr}
 use Rattle.rack_outside.specs.Link.{Seen}
 use Rattle.rack_types.specs.declared.body.Body.{Ghosts}
@@ -14,25 +14,25 @@ use Rattle.conn_core.specs.Holds.{HoldsBy}
 use Rattle.conn_core.specs.Inner.{left_at, MadeTo, StepMoves}
 use Rattle.conn_core.specs.Keeps.{reaching}
 use Rattle.conn_core.specs.Moments.{reached}
-use Rattle.conn_core.specs.Moves.{OwesRightly, Move, Moment, Makes, TurnStops}
+use Rattle.conn_core.specs.Moves.{OwesRightly, Move, Point, Makes, TurnStops}
 use Rattle.conn_core.specs.Owner.{BeginsRightly}
 use Rattle.conn_core.specs.Shown.{Shown, shows}
-use Rattle.conn_core.proofs.MovingLemmas.{full, turn_moment}
+use Rattle.conn_core.proofs.MovingLemmas.{full, turn_point}
 
 -- one more move
-goes_rightly : (now : ℕ) (moves : List Move) (move : Move) (m n k : Moment) → GoesRightly now moves m n → Makes now move n k → OwesRightly k.shown
+goes_rightly : (now : ℕ) (moves : List Move) (move : Move) (m n k : Point) → GoesRightly now moves m n → Makes now move n k → OwesRightly k.shown
     → BeginsRightly k.seen k.shown → GoesRightly now (moves ++ move ∷ []) m k
 goes_rightly now [] move m n k h made owes right =
-    (subst (λ (x : Moment). BeginsRightly x.seen x.shown) h.0 h.1, k, subst (λ (x : Moment). Makes now move x k) h.0 made, owes, (refl, right))
+    (subst (λ (x : Point). BeginsRightly x.seen x.shown) h.0 h.1, k, subst (λ (x : Point). Makes now move x k) h.0 made, owes, (refl, right))
 goes_rightly now (x ∷ moves) move m n k h made owes right =
     (h.0, h.1, h.2, h.3, goes_rightly now moves move h.1 n k h.4 made owes right)
 
 -- the moves so far
-pub record MovingRightly (now : ℕ) (first last : Moment) : Type 0 where
+pub record MovingRightly (now : ℕ) (first last : Point) : Type 0 where
   pub moves : List Move
   pub made : GoesRightly now moves first last
 
-pub rightly_step : (now : ℕ) (first m n : Moment) → MovingRightly now first m → MadeTo now m n → BeginsRightly n.seen n.shown → MovingRightly now first n
+pub rightly_step : (now : ℕ) (first m n : Point) → MovingRightly now first m → MadeTo now m n → BeginsRightly n.seen n.shown → MovingRightly now first n
 rightly_step now first m n h k right =
     record { moves = h.moves ++ k.0 ∷ []; made = goes_rightly now h.moves k.0 first m n h.made k.1 k.2 right }
 
@@ -48,7 +48,7 @@ turned_rightly now o n s u l w few h stops =
     let runs : 10 - l.runs ≤ 10 = omega arith in
     let reads : 160 - l.reads ≤ 160 = omega arith in
     let writes : 160 - l.writes ≤ 160 = omega arith in
-    let is = turn_moment n u l w few in
+    let is = turn_point n u l w few in
     record {
       runs = 10 - l.runs;
       reads = 160 - l.reads;
@@ -56,7 +56,7 @@ turned_rightly now o n s u l w few h stops =
       few = (runs, reads, writes);
       moves = h.moves;
       waited = w;
-      made = subst (λ (m : Moment). GoesRightly now h.moves (left_at o s full false) m) is h.made;
+      made = subst (λ (m : Point). GoesRightly now h.moves (left_at o s full false) m) is h.made;
       stops = subst TurnStops is stops;
     }
 
@@ -70,7 +70,7 @@ rightly_end now step.Waits o m n s t u l k e few h p right =
 rightly_end now step.Stops o m n s t u l k e few h p right =
     let same : left_at m t l false ≡ left_at n u k false =
     ap (λ (x : Shown). left_at x t l false) (sym p.0) ∙ ap (λ (x : Seen). left_at n x l false) (sym p.1) ∙ ap (λ (x : Left). left_at n u x false) (sym p.2) in
-    turned_rightly now o n s u k false few (subst (λ (x : Moment). MovingRightly now (left_at o s full false) x) same h) p.3
+    turned_rightly now o n s u k false few (subst (λ (x : Point). MovingRightly now (left_at o s full false) x) same h) p.3
 
 -- a turn at another moment
 pub rightly_of_same : {B H : Type 0} {g : Ghosts B} (V : Voice H) (T : Teller H) (now : ℕ) (s s' : Seen) (old same : Inside B H g) (t : Moments) (new : Inside B H g)

@@ -30,7 +30,7 @@ use Rattle.conn_core.specs.declared.state.Next.TheVariants as next
 use Rattle.conn_core.specs.declared.state.State.{State}
 use Rattle.conn_core.specs.declared.state.State.TheVariants as state
 use Rattle.conn_core.specs.Answers.{TurnedSo}
-use Rattle.conn_core.specs.Calls.{TurnEnds, RestsBehind, IsSpent, IsHandedOver, TurnTells, Turns}
+use Rattle.conn_core.specs.Calls.{TurnEnds, RestsBehind, IsSpent, IsListening, TurnTells, Turns}
 use Rattle.conn_core.specs.Keeps.{Drains, DrainsOnce}
 use Rattle.conn_core.specs.Inner.{IsFed, ReadLeaves, ReadsBy, TakesUp, TellsBy, TellsFrom, writes_of, HijackedOn, SaysOn, Says, Steps, IsSpentLeft, StepLeaves}
 use Rattle.conn_core.specs.Moves.{SameShown, StartsAs}
@@ -366,8 +366,8 @@ some_came came n is some = omega (arith, is, some, counted_sum (length came) 0 s
 
 -- the link had to wait in the last step, or a hijacker has the connection and nothing is owed, or no step may be made
 waited : (n : Shown) (s u : Seen) (l : Left)
-    → Rose s.waits u.waits ⊎ ((n.state ≡ state.Over) ⊎ (IsHandedOver n ⊎ IsSpentLeft l))
-    → n.state ≢ state.Over → ¬ (IsSpentLeft l) → Rose s.waits u.waits ⊎ IsHandedOver n
+    → Rose s.waits u.waits ⊎ ((n.state ≡ state.Over) ⊎ (IsListening n ⊎ IsSpentLeft l))
+    → n.state ≢ state.Over → ¬ (IsSpentLeft l) → Rose s.waits u.waits ⊎ IsListening n
 waited n s u l h live more =
     elim h [
       | inl rose ↦ inl rose
@@ -379,9 +379,9 @@ waited n s u l h live more =
 
 module _ {B H : Type 0} (a : At B H) (o n : Shown) (s u : Seen) (l : Left) (more : Bool) (h : Turning o n s u l) (is : n.state ≡ state_at a)
     (got : IsTrue more ↔ (o.replied < n.replied))
-    (stopped : Rose s.waits u.waits ⊎ ((n.state ≡ state.Over) ⊎ (IsHandedOver n ⊎ IsSpentLeft l))) where
+    (stopped : Rose s.waits u.waits ⊎ ((n.state ≡ state.Over) ⊎ (IsListening n ⊎ IsSpentLeft l))) where
   -- behind a hijacker's taking over, a reply was sent whole
-  handed_got : IsHandedOver n → IsTrue more
+  handed_got : IsListening n → IsTrue more
   handed_got handed = got.1 (subst (λ (b : State). RestsBehind b o.replied n.replied) handed.0 h.rests)
 
   turn_tells : (result : Next) → TurnedSo result a l more → TurnTells result (10 - l.runs) (160 - l.reads) (160 - l.writes) h.moved.came o n s u
@@ -436,8 +436,8 @@ module _ {B H : Type 0} (a : At B H) (o n : Shown) (s u : Seen) (l : Left) (more
 
 -- why a turn stops: the link had to wait in the last step, or none may be made
 pub step_stops : {B H : Type 0} (r : Step) (l k : Left) (a b : At B H) (n : Shown) (s t u : Seen) → (r ≡ step.Waits) ⊎ (r ≡ step.Stops)
-    → StepLeaves r l k a b t u → s.waits ≤ t.waits → n.state ≡ state_at b → (IsHearing b → IsHandedOver n)
-    → Rose s.waits u.waits ⊎ ((n.state ≡ state.Over) ⊎ (IsHandedOver n ⊎ IsSpentLeft k))
+    → StepLeaves r l k a b t u → s.waits ≤ t.waits → n.state ≡ state_at b → (IsHearing b → IsListening n)
+    → Rose s.waits u.waits ⊎ ((n.state ≡ state.Over) ⊎ (IsListening n ⊎ IsSpentLeft k))
 step_stops {B} {H} step.GoesOn l k a b n s t u e h early is hands = elim e [ inl x ↦ cc | inr x ↦ cc ]
 step_stops {B} {H} step.Waits l k a b n s t u e h early is hands =
     let last : u.waits ≤ u.waits = omega arith in inl (rose_within s.waits t.waits u.waits u.waits early h last)

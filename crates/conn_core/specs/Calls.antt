@@ -14,7 +14,7 @@ use Rattle.conn_core.specs.declared.state.State.TheVariants as state
 use Rattle.conn_core.specs.Keeps.{Keeps, Drains, Read}
 use Rattle.conn_core.specs.Shown.{Shown, Moved}
 use Rattle.conn_core.specs.Owner.{BeginsRightly}
-use Rattle.conn_core.specs.Moves.{size_of, ReadsOnce, Move, Moment, Makes, Goes, turn_at, TurnStops, flush_at, FlushStops, OwesRightly}
+use Rattle.conn_core.specs.Moves.{size_of, ReadsOnce, Move, Point, Makes, Goes, turn_at, TurnStops, flush_at, FlushStops, OwesRightly}
 
 -- why a turn or a flush may end a connection, by what became of its link: that a read told the peer's end, or that a
 -- failure was counted. Whether the peer ended changes only with the first of them. One whose last request took too long
@@ -93,8 +93,8 @@ abbrev pub IsSpent : ℕ → ℕ → ℕ → Type 0
 IsSpent runs reads writes = (runs ≡ 10) ⊎ ((reads ≡ 160) ⊎ (writes ≡ 160))
 
 -- a hijacker has the connection, and nothing is owed
-abbrev pub IsHandedOver : Shown → Type 0
-IsHandedOver c = (c.state ≡ state.Hijacked) × (c.owed ≡ [])
+abbrev pub IsListening : Shown → Type 0
+IsListening c = (c.state ≡ state.Hijacked) × (c.owed ≡ [])
 
 -- bytes came, or a reply was sent whole, as that which hands the connection to a hijacker
 abbrev pub GotOn : List ℕ → Shown → Shown → Type 0
@@ -105,7 +105,7 @@ abbrev pub TurnTells : Next → ℕ → ℕ → ℕ → List ℕ → Shown → S
 TurnTells next.Waiting runs reads writes came old new s s' =
     (new.state ≢ state.Over) × ¬ (IsSpent runs reads writes) × ¬ (GotOn came old new) × Rose s.waits s'.waits
 TurnTells next.More runs reads writes came old new s s' =
-    (new.state ≢ state.Over) × ¬ (IsSpent runs reads writes) × GotOn came old new × (Rose s.waits s'.waits ⊎ IsHandedOver new)
+    (new.state ≢ state.Over) × ¬ (IsSpent runs reads writes) × GotOn came old new × (Rose s.waits s'.waits ⊎ IsListening new)
 TurnTells next.Ready runs reads writes came old new s s' = ⊥
 TurnTells next.TurnOver runs reads writes came old new s s' = (new.state ≢ state.Over) × IsSpent runs reads writes
 TurnTells next.Over runs reads writes came old new s s' = new.state ≡ state.Over
@@ -135,12 +135,12 @@ pub record Turns (now : ℕ) (result : Next) (old new : Shown) (s s' : Seen) : T
   pub ends : TurnEnds None new.why s s'
   pub tells : TurnTells result runs reads writes moved.came old new s s'
 
--- these moves lead from a moment to another, and at each of their moments what is read on, stands or is refused is what
+-- these moves lead from a point to another, and at each of their points what is read on, stands or is refused is what
 -- comes behind the requests that were run
-abbrev pub GoesRightly : ℕ → List Move → Moment → Moment → Type 0
+abbrev pub GoesRightly : ℕ → List Move → Point → Point → Type 0
 GoesRightly now [] m n = (n ≡ m) × BeginsRightly n.seen n.shown
 GoesRightly now (move ∷ moves) m n =
-    BeginsRightly m.seen m.shown × (next : Moment) × Makes now move m next × OwesRightly next.shown × GoesRightly now moves next n
+    BeginsRightly m.seen m.shown × (next : Point) × Makes now move m next × OwesRightly next.shown × GoesRightly now moves next n
 
 -- a turn of such moves
 pub record TurnsRightly (now : ℕ) (old new : Shown) (s s' : Seen) : Type 0 where

@@ -25,7 +25,7 @@ use Rattle.conn_core.specs.Place.{IsHearing, state_at}
 use Rattle.conn_core.specs.Shown.{Shown, Moved}
 use Rattle.conn_core.specs.Calls.{TurnEnds, IsOfFeed, IsOfFlush, RestsBehind}
 use Rattle.conn_core.specs.Keeps.{Keeps, Drains, filled_if, no_bytes, Move, Run, Refusal, Want, Write}
-use Rattle.conn_core.specs.Moves.{ring_room, SameShown, Starts, NamesFault, WantsMemory, write_waits, WritesOnce, OwesRightly, Moment, Makes, TurnStops}
+use Rattle.conn_core.specs.Moves.{ring_room, SameShown, Starts, NamesFault, WantsMemory, write_waits, WritesOnce, OwesRightly, Point, Makes, TurnStops}
 
 -- behind bytes that were fed the connection reads on, is ready, or wanted memory
 abbrev pub IsFed : State → Type 0
@@ -218,8 +218,8 @@ SaysOnce now said.Wrote old new s s' =
     (answer : LinkWrite) × (write_waits answer ≡ false) × WritesOnce answer old new s s' × Keeps now (Write answer) old new
 SaysOnce now said.Waits old new s s' = WritesOnce write.NotYet old new s s' × Keeps now (Write write.NotYet) old new
 
--- the moment of a turn of which this is left
-abbrev pub left_at : Shown → Seen → Left → Bool → Moment
+-- the point of a turn at which this is left
+abbrev pub left_at : Shown → Seen → Left → Bool → Point
 left_at shown seen left waited = record {
   shown = shown;
   seen = seen;
@@ -230,7 +230,7 @@ left_at shown seen left waited = record {
 }
 
 -- a move that was made, and what it leaves is owed rightly
-abbrev pub MadeTo : ℕ → Moment → Moment → Type 0
+abbrev pub MadeTo : ℕ → Point → Point → Type 0
 MadeTo now m n = (move : Move) × Makes now move m n × OwesRightly n.shown
 
 -- how a step went: one move, in which the link had to wait or not; or nothing changed, and the turn stops

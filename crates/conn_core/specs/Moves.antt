@@ -199,9 +199,9 @@ OwesAs state.Over s = s.owed ≡ []
 abbrev pub OwesRightly : Shown → Type 0
 OwesRightly s = OwesAs s.state s
 
--- a moment of a call: what the connection and its link show; how many runs, reads and writes are left of those that
+-- a point of a call: what the connection and its link show; how many runs, reads and writes are left of those that
 -- the call may make; and whether the link had to wait
-pub record Moment : Type 0 where
+pub record Point : Type 0 where
   pub shown : Shown
   pub seen : Seen
   pub runs : ℕ
@@ -210,20 +210,20 @@ pub record Moment : Type 0 where
   pub waited : Bool
 
 -- a request may be run, a refusal be named or a read be made: some are left of each kind, and nothing had to wait
-pub record IsOpen (m : Moment) : Type 0 where
+pub record IsOpen (m : Point) : Type 0 where
   pub runs : 0 < m.runs
   pub reads : 0 < m.reads
   pub writes : 0 < m.writes
   pub unwaited : m.waited ≡ false
 
 -- a write may be made
-pub record MayWrite (m : Moment) : Type 0 where
+pub record MayWrite (m : Point) : Type 0 where
   pub reads : 0 < m.reads
   pub writes : 0 < m.writes
   pub unwaited : m.waited ≡ false
 
 -- a move of so many runs, reads and writes, in which the link had to wait or not
-pub record Spends (runs reads writes : ℕ) (waits : Bool) (m n : Moment) : Type 0 where
+pub record Spends (runs reads writes : ℕ) (waits : Bool) (m n : Point) : Type 0 where
   pub runs_are : m.runs ≡ n.runs + runs
   pub reads_are : m.reads ≡ n.reads + reads
   pub writes_are : m.writes ≡ n.writes + writes
@@ -233,10 +233,10 @@ pub record Spends (runs reads writes : ℕ) (waits : Bool) (m n : Moment) : Type
 abbrev pub IsOwing : Shown → Type 0
 IsOwing s = (s.state ≡ state.Answering) ⊎ ((s.state ≡ state.Hijacked) × (s.owed ≢ []))
 
--- one move from a moment to the next: where a request or a refusal stands, it is taken up; where bytes are owed, they
+-- one move from a point to the next: where a request or a refusal stands, it is taken up; where bytes are owed, they
 -- are written; and only where neither is so, is there a read. Memory is refused where a request is to be run, and where
 -- a body is asked for the rest of what is owed
-abbrev pub MakesMove : Move → Moment → Moment → Type 0
+abbrev pub MakesMove : Move → Point → Point → Type 0
 MakesMove Run m n =
     (m.shown.state ≡ state.Ready) × (m.shown.fault ≡ None) × IsOpen m × Spends 1 0 0 false m n × (n.seen ≡ m.seen) × Starts m.shown n.shown
 MakesMove (Refusal fault) m n =
@@ -252,16 +252,16 @@ MakesMove (Write answer) m n =
     IsOwing m.shown × MayWrite m × Spends 0 0 1 (write_waits answer) m n × WritesOnce answer m.shown n.shown m.seen n.seen
 
 -- the same in a call that was handed this moment
-abbrev pub Makes : ℕ → Move → Moment → Moment → Type 0
+abbrev pub Makes : ℕ → Move → Point → Point → Type 0
 Makes now move m n = MakesMove move m n × Keeps now move m.shown n.shown
 
--- these moves lead from a moment to another
-abbrev pub Goes : ℕ → List Move → Moment → Moment → Type 0
+-- these moves lead from a point to another
+abbrev pub Goes : ℕ → List Move → Point → Point → Type 0
 Goes now [] m n = n ≡ m
-Goes now (move ∷ moves) m n = (next : Moment) × Makes now move m next × OwesRightly next.shown × Goes now moves next n
+Goes now (move ∷ moves) m n = (next : Point) × Makes now move m next × OwesRightly next.shown × Goes now moves next n
 
--- the moment of a turn in which so many runs, reads and writes were made. It may make 10, 160 and 160
-abbrev pub turn_at : Shown → Seen → ℕ → ℕ → ℕ → Bool → Moment
+-- the point of a turn at which so many runs, reads and writes were made. It may make 10, 160 and 160
+abbrev pub turn_at : Shown → Seen → ℕ → ℕ → ℕ → Bool → Point
 turn_at shown seen runs reads writes waited = record {
   shown = shown;
   seen = seen;
@@ -272,12 +272,12 @@ turn_at shown seen runs reads writes waited = record {
 }
 
 -- none is left of some kind
-abbrev pub IsSpentAt : Moment → Type 0
+abbrev pub IsSpentAt : Point → Type 0
 IsSpentAt m = (m.runs ≡ 0) ⊎ ((m.reads ≡ 0) ⊎ (m.writes ≡ 0))
 
 -- a turn goes no further in this state. What is owed is still written where no run is left, and what a hijacker said
 -- too; but nothing is read for a hijacker
-abbrev pub StopsIn : State → Moment → Type 0
+abbrev pub StopsIn : State → Point → Type 0
 StopsIn state.Reading m = IsSpentAt m
 StopsIn state.Ready m = IsSpentAt m
 StopsIn state.Answering m = (m.reads ≡ 0) ⊎ (m.writes ≡ 0)
@@ -285,11 +285,11 @@ StopsIn state.Hijacked m = (m.shown.owed ≡ []) ⊎ ((m.reads ≡ 0) ⊎ (m.wri
 StopsIn state.Over m = ⊤
 
 -- a turn stops only where the link had to wait, or where no move may be made
-abbrev pub TurnStops : Moment → Type 0
+abbrev pub TurnStops : Point → Type 0
 TurnStops m = (m.waited ≡ true) ⊎ StopsIn m.shown.state m
 
--- the moment of a flush in which so many writes were made. It may make 16, and it runs and reads nothing
-abbrev pub flush_at : Shown → Seen → ℕ → Bool → Moment
+-- the point of a flush at which so many writes were made. It may make 16, and it runs and reads nothing
+abbrev pub flush_at : Shown → Seen → ℕ → Bool → Point
 flush_at shown seen writes waited = record {
   shown = shown;
   seen = seen;
@@ -300,5 +300,5 @@ flush_at shown seen writes waited = record {
 }
 
 -- a flush stops only where the link had to wait, where nothing is owed, or where no write is left
-abbrev pub FlushStops : Moment → Type 0
+abbrev pub FlushStops : Point → Type 0
 FlushStops m = (m.waited ≡ true) ⊎ (¬ (IsOwing m.shown) ⊎ (m.writes ≡ 0))

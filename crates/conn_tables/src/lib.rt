@@ -13,6 +13,8 @@ mod drains_answered;
 #[cfg(test)]
 mod drains_hijacked;
 #[cfg(test)]
+mod fails;
+#[cfg(test)]
 mod halts;
 #[cfg(test)]
 mod idle;

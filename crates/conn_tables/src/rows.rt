@@ -46,7 +46,15 @@ fn wrong_from(alloc: Global, row: &Row, mut conn: MemConn) -> Option<usize> {
 
 /// A fresh connection, on a link that has given nothing.
 pub(crate) fn opened<H: Hijack + Drop>(alloc: Global) -> Option<Conn<MemLink, Plain, H>> {
-    let link = MemLink::new(alloc, 3, Bytes::new(Vec::new(alloc)));
+    opened_failing(alloc, Bytes::new(Vec::new(alloc)))
+}
+
+/// The same, on a link whose reads and writes at these places fail, counted from 1.
+pub(crate) fn opened_failing<H: Hijack + Drop>(
+    alloc: Global,
+    fails: Bytes,
+) -> Option<Conn<MemLink, Plain, H>> {
+    let link = MemLink::new(alloc, 3, fails);
     let local = Local {
         name: Peer::new(b"localhost").unwrap(),
         port: 9292,
@@ -57,7 +65,8 @@ pub(crate) fn opened<H: Hijack + Drop>(alloc: Global) -> Option<Conn<MemLink, Pl
     Conn::open(alloc, 7, link, peer, local, Limits::stock(), 0, OPENED).ok()
 }
 
-fn ended(conn: MemConn) -> Option<Ended<MemLink>> {
+/// Its end, where it is over.
+pub(crate) fn ended(conn: MemConn) -> Option<Ended<MemLink>> {
     match conn.state() {
         State::Over => Some(conn.finish()),
         State::Reading | State::Ready | State::Answering | State::Hijacked => None,
@@ -71,8 +80,8 @@ fn is_so(row: &Row, end: &Ended<MemLink>) -> bool {
         && is_joined(end.link.sent(), row.sent)
 }
 
-// Whether the text is these parts, joined.
-fn is_joined(text: &[u8], parts: &[&str]) -> bool {
+/// Whether the text is these parts, joined.
+pub(crate) fn is_joined(text: &[u8], parts: &[&str]) -> bool {
     let mut rest = text;
     for part in parts {
         match rest.strip_prefix(part.as_bytes()) {

@@ -72,7 +72,8 @@ pub(crate) fn goes(alloc: Global, app: App, conn: &mut MemConn, step: Step) -> b
     }
 }
 
-fn feed(conn: &mut MemConn, now: u64) -> Option<Next> {
+/// A call that may not be made answers nothing.
+pub(crate) fn feed(conn: &mut MemConn, now: u64) -> Option<Next> {
     match conn.state() {
         State::Reading => Some(conn.feed(now)),
         State::Hijacked => feed_hijacked(conn, now),
@@ -90,7 +91,7 @@ fn feed_hijacked(conn: &mut MemConn, now: u64) -> Option<Next>
     }
 }
 
-fn turn(alloc: Global, app: App, conn: &mut MemConn, now: u64) -> Option<Next> {
+pub(crate) fn turn(alloc: Global, app: App, conn: &mut MemConn, now: u64) -> Option<Next> {
     match conn.state() {
         State::Ready => Some(answer(alloc, app, conn, now)),
         State::Reading | State::Answering | State::Hijacked | State::Over => None,
@@ -107,7 +108,7 @@ fn answer(alloc: Global, app: App, conn: &mut MemConn, now: u64) -> Next
     }
 }
 
-fn flush(conn: &mut MemConn, now: u64) -> Option<Next> {
+pub(crate) fn flush(conn: &mut MemConn, now: u64) -> Option<Next> {
     if conn.wants_write() {
         Some(conn.flush(now))
     } else {

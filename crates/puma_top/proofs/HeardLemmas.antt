@@ -10,7 +10,7 @@ use Rattle.reply_framing.specs.declared.types.After.TheVariants.{Close}
 use Rattle.talk_core.specs.declared.ended.Why.{Why}
 use Rattle.conn_core.specs.Calls.{Flushes, Leaves}
 use Rattle.conn_core.specs.Keeps.{reaching}
-use Rattle.conn_core.specs.Moves.{ToldTo, BehindRead, ReadsOnce, StillOwes, SentTo, BehindWrite, Move, Run, Refusal, Want, Read, Write, Moment, MakesMove, Goes, IsOwing, flush_at}
+use Rattle.conn_core.specs.Moves.{ToldTo, BehindRead, ReadsOnce, StillOwes, SentTo, BehindWrite, Move, Run, Refusal, Want, Read, Write, Point, MakesMove, Goes, IsOwing, flush_at}
 use Rattle.conn_core.specs.Shown.{Shown}
 use Rattle.conn_core.specs.declared.state.Next.{Next}
 use Rattle.conn_core.specs.declared.state.State.{State}
@@ -74,7 +74,7 @@ written_last write.NoMemory o n h b = inl b.0
 over_owes : (c : Shown) → c.state ≡ state.Over → IsOwing c → ⊥
 over_owes c e owes = elim owes [ inl x ↦ cc (x, e) | inr x ↦ cc (x.0, e) ]
 
-last_moved : (move : Move) (m n : Moment) → MakesMove move m n → Lasts m.shown → Lasts n.shown
+last_moved : (move : Move) (m n : Point) → MakesMove move m n → Lasts m.shown → Lasts n.shown
 last_moved Run m n h last = absurd (lasts_not m.shown state.Ready last h.0 (λ e. cc) (λ e. cc))
 last_moved (Refusal f) m n h last = absurd (lasts_not m.shown state.Ready last h.0 (λ e. cc) (λ e. cc))
 last_moved Want m n h last = elim h.0 [
@@ -87,8 +87,8 @@ last_moved (Write a) m n h last = elim last [
   | inr says ↦ written_last a m.shown n.shown says h.3.behind
 ]
 
-last_goes : (now : ℕ) (moves : List Move) (m n : Moment) → Goes now moves m n → Lasts m.shown → Lasts n.shown
-last_goes now [] m n h last = subst (λ (x : Moment). Lasts x.shown) (sym h) last
+last_goes : (now : ℕ) (moves : List Move) (m n : Point) → Goes now moves m n → Lasts m.shown → Lasts n.shown
+last_goes now [] m n h last = subst (λ (x : Point). Lasts x.shown) (sym h) last
 last_goes now (move ∷ moves) m n h last = last_goes now moves h.0 n h.3 (last_moved move m h.0 h.1.0 last)
 
 -- a hijacker that has the connection is heard until it is over
