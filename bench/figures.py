@@ -57,12 +57,10 @@ def long_head(size):
 
 def feed(end, pieces):
     try:
-        for piece in pieces:
+        for piece in [*pieces, b""]:  # an empty piece is a read of nothing: the end
             end.send(piece)
     except OSError:
         pass  # the program has read enough
-    finally:
-        end.close()
 
 
 def run(command, text, cut, replies=1):
@@ -89,6 +87,7 @@ def run(command, text, cut, replies=1):
     child.stdout.close()
     if feeder:
         feeder.join()
+        far.close()
     if child.returncode != 0 or out.count(b"HTTP/1.1 200 OK\r\n") != (replies if text else 0):
         sys.exit(f"the program answered with status {child.returncode}: {out[:80]!r}")
     return seconds

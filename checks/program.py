@@ -41,15 +41,16 @@ class Ready:
 
 
 def feed(end, cut):
+    # An empty piece is a read of nothing, which is the end. A shutdown is no piece: a reader that is about to wait can
+    # see it before the pieces that were sent ahead of it.
+    pieces = cut.pieces if cut.stays_open else [*cut.pieces, b""]
     try:
-        for piece in cut.pieces:
+        for piece in pieces:
             end.send(piece)
     except OSError as e:
         # The program has read enough and has ended.
         if e.errno not in (errno.EPIPE, errno.ECONNRESET):
             raise
-    if not cut.stays_open:
-        end.shutdown(socket.SHUT_WR)
 
 
 def ends_of(stdin):
