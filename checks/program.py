@@ -15,7 +15,7 @@ SECONDS = 60
 
 
 class Cut:
-    """Input that comes in these pieces, each of them one read, and then ends or stays open."""
+    """Input that comes in these pieces, each of them one read, and then ends or stays open. None is empty."""
 
     def __init__(self, pieces, stays_open=False):
         self.pieces = [bytes(piece) for piece in pieces]
