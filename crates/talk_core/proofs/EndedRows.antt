@@ -260,7 +260,7 @@ drain_untold e = omega (arith, e)
 no_drain_needed : NeedsDrain false 0
 no_drain_needed = tt
 
--- one that could not be opened has no life, and nothing behind it; all others have one life
+-- one that could not be opened has no life, and nothing behind it
 not_opened : AreEndedLives [] why.NoMemory (had [] [] false 0 0)
 not_opened = (refl, refl, refl, refl)
 
@@ -278,12 +278,6 @@ drained_unopened e = cc
 
 closed_unopened : ¬ (AreEndedLives [] why.Closed (had [] [] false 0 0))
 closed_unopened e = e
-
-one_life : AreEndedLives (record { first = 0; phase = 3 } ∷ []) why.NoMemory (had [] [] false 0 0)
-one_life = refl
-
-late_life : ¬ (AreEndedLives (record { first = 1; phase = 3 } ∷ []) why.Closed (had [] [] false 0 0))
-late_life e = omega (arith, e)
 
 -- the 408 is said to a connection that was timed out
 timed_word : IsTimed {H = Bool} times_out true

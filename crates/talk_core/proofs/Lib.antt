@@ -5,10 +5,12 @@ mod CompareLemmas
 mod CountLemmas
 mod EndedLemmas
 mod EndedRows
+mod ExistenceLemmas
 mod HijackLemmas
 mod LastLemmas
 mod LawLemmas
-mod LifeLemmas
+mod LivesLemmas
+mod LivesRows
 mod RetellLemmas
 mod RunLemmas
 mod ShowsLemmas

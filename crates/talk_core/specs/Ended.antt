@@ -14,6 +14,7 @@ use Rattle.talk_core.specs.declared.ended.Life.{Life}
 use Rattle.talk_core.specs.declared.ended.Why.{Why}
 use Rattle.talk_core.specs.declared.ended.Why.TheVariants as why
 use Rattle.talk_core.specs.Answer.{IsHandedOver}
+use Rattle.talk_core.specs.Lives.{AreLives}
 use Rattle.talk_core.specs.Stands.{Word, times_out, IsHijack, ClosesAt, Partly}
 use Rattle.talk_core.specs.Tail.{Voice, tail_of, goes_on}
 use Rattle.talk_core.specs.Talk.{Stop, wanting, refused, closed, hijacked, Talk, text}
@@ -108,17 +109,11 @@ EndsBy {H} why.Hijacked V T p =
     (h : H) × (rest : List ℕ) × (said : List ℕ)
     × SentWholeTo T p h rest said × (p.sent ≡ said ++ tail_of V h rest p.over) × NeedsDrain (goes_on V h rest p.over) p.told
 
--- a connection has one life, which begins at its first request; one that could not be opened has none, and nothing
--- behind it
-abbrev pub AreLives : List Life → Type 0
-AreLives [] = ⊥
-AreLives (life ∷ []) = life.first ≡ 0
-AreLives (life ∷ next ∷ lives) = ⊥
-
+-- an ended connection has its lives; one that could not be opened has none, and nothing behind it
 abbrev pub AreEndedLives : List Life → Why → Past → Type 0
 AreEndedLives [] why.NoMemory p = (p.given ≡ []) × (p.sent ≡ []) × (p.calls ≡ 0) × (p.closing ≡ None)
 AreEndedLives [] ended p = ⊥
-AreEndedLives (life ∷ lives) ended p = AreLives (life ∷ lives)
+AreEndedLives (life ∷ lives) ended p = AreLives (life ∷ lives) p.calls
 
 -- what an ended connection has behind it, where its link was given and sent these bytes
 abbrev pub past_of : {L : Type 0} → Seen → Ended L → List ℕ → List ℕ → Bool → Past
@@ -166,7 +161,7 @@ pub record StandsForTalk (s : Seen) {H : Type 0} (V : Voice H) (S : Stacks H) (l
   pub word : Word H
   pub lacks : List ℕ
   pub shows : Shows s peer given sent over
-  pub lives_are : AreLives lives
+  pub lives_are : AreLives lives calls
   pub partly : Partly V (tell S lives local peer closing) over given sent calls closing word lacks
   pub is_timed : IsTimed word timed
 

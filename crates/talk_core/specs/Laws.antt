@@ -19,6 +19,10 @@ IsOneTalk fates given =
     (asked asked' : List Parts) (stop stop' : Stop) (rest rest' : List ℕ) → Talk fates given asked stop rest
     → Talk fates given asked' stop' rest' → (asked ≡ asked') × (stop ≡ stop') × (rest ≡ rest')
 
+-- a talk is on these bytes
+abbrev pub HasTalk : Fates → List ℕ → Type 0
+HasTalk fates given = (asked : List Parts) × (stop : Stop) × (rest : List ℕ) × Talk fates given asked stop rest
+
 -- a talk that stopped for good is that of any further bytes, and only its rest grows
 abbrev pub Stays : Fates → List ℕ → List ℕ → Type 0
 Stays fates given more =

@@ -3,6 +3,7 @@ pub mod Asked
 pub mod Counts
 pub mod Ended
 pub mod Laws
+pub mod Lives
 pub mod Stands
 pub mod Tail
 pub mod Talk

@@ -1,6 +1,6 @@
 // Laws over the definitions. A function without a result does nothing: its contract is the law.
 ghost use Rattle.std.specs.Prelude.{ℕ, List, Bool, Option};
-ghost use Rattle.talk_core.specs.Laws.{IsOneTalk, Stays, PartlyStands, AreReadAgain};
+ghost use Rattle.talk_core.specs.Laws.{IsOneTalk, HasTalk, Stays, PartlyStands, AreReadAgain};
 ghost use Rattle.talk_core.specs.Tail.{Voice};
 ghost use Rattle.talk_core.specs.Teller.{Fates, Stacks, tell};
 ghost use Rattle.talk_core.specs.declared.ended.Life.{Life};
@@ -9,6 +9,12 @@ ghost use Rattle.rack_types.specs.declared.peer.Local.{Local};
 /// At most one talk is on these bytes: what was asked, how it stopped, and what is left.
 pub fn one_talk_is_on_the_bytes()
     ensures { (fates : Fates) (given : List ℕ) → IsOneTalk fates given }
+{}
+
+/// No bytes are without a talk: it isn't so that there is none. So what is said of each talk on some bytes is never said
+/// of nothing.
+pub fn no_bytes_are_without_a_talk()
+    ensures { (fates : Fates) (given : List ℕ) → ¬ (¬ (HasTalk fates given)) }
 {}
 
 /// A talk that stopped for good, refused, by a reply that closes, or at a hijack, is not changed by any

@@ -11,6 +11,6 @@ mod tests;
 
 pub use ended::{Ended, IdleBy, Life, Why};
 pub use laws::{
-    chunks_are_read_again, one_talk_is_on_the_bytes, talk_that_stopped_stays,
-    what_was_sent_stands_for_the_talk,
+    chunks_are_read_again, no_bytes_are_without_a_talk, one_talk_is_on_the_bytes,
+    talk_that_stopped_stays, what_was_sent_stands_for_the_talk,
 };
