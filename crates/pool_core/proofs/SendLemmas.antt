@@ -16,7 +16,7 @@ use Rattle.crossbeam_queue.specs.contracts.array_queue.Slotted as slots
 use Rattle.crossbeam_queue.specs.contracts.array_queue.Turns as turns
 use Rattle.crossbeam_queue.specs.contracts.array_queue.TurnsTableRuleOptionDoingUnit.TheImpl as ruled
 use Rattle.crossbeam_queue.proofs.array_queue.Slotted.TheSendSync as slotted
-use Rattle.pool_core.specs.declared.numbered.Numbered as numbered
+use Rattle.rack_outside.specs.declared.numbered.Numbered as numbered
 use Rattle.pool_core.specs.declared.numbered.LaneRule as laws
 use Rattle.pool_core.specs.contracts.view.Cargo as cargo
 use Rattle.pool_core.specs.contracts.view.PassView as viewed

@@ -4,8 +4,9 @@ ghost use Rattle.pool_core.specs.Pass.{lane_room, pass_view, IsLanePass, FitsSta
 ghost use Rattle.pool_core.specs.Repeats.{SameElements};
 
 use crate::steps::{Load, OneLane, Open, Part, Put, Take};
-use crate::{Cargo, LaneRule, Numbered, PassView};
+use crate::{Cargo, LaneRule, PassView};
 use crossbeam_queue::RuledArrayQueue;
+use rack_outside::Numbered;
 use std::alloc::{AllocError, Global};
 use std::snapshot::Snapshot;
 use std::sync::Wait;

@@ -2,8 +2,9 @@
 ghost use Rattle.pool_core.specs.Pass.{split_off, with_one_more_out, joined};
 ghost use Rattle.pool_core.specs.Rule.{Kept, Puts, Takes, PutsData, TakesData, Learns, Agrees, fresh_pass, spent};
 
-use crate::{Cargo, LaneRule, Numbered, PassView};
+use crate::{Cargo, LaneRule, PassView};
 use crossbeam_queue::protocol::{Join, Lesson, Outcome, Protocol, Split};
+use rack_outside::Numbered;
 use std::marker::PhantomData;
 
 /// The rule of a lane's queue, as `specs/Rule.antt` says it. No value of it is made.
