@@ -1,5 +1,5 @@
 -- What a runner tells of its runs, which is this project's own.
-use Rattle.std.specs.Prelude.{ℕ, Bool, true, false, List, [], ◌∷◌, ◌++◌, Option, None, Some, Result, Ok, Err}
+use Rattle.std.specs.Prelude.{◌≡◌, ℕ, Bool, true, false, List, [], ◌∷◌, ◌++◌, Option, None, Some, Result, Ok, Err}
 use Rattle.std.specs.declared.alloc.AllocError.{AllocError}
 use Rattle.rack_types.specs.Env.{Pairs, Environment}
 use Rattle.rack_types.specs.declared.answer.Answer.{Answer}
@@ -27,3 +27,12 @@ went_well (Err e) = false
 -- each run lengthens the list of what was asked
 abbrev pub asked_then : {X : Type 0} → Result X AllocError → Environment → Option (List (Asked × Bool)) → Option (List (Asked × Bool))
 asked_then result env before = also ((env.pairs, env.input.bytes), went_well result) before
+
+-- runs, one behind the other, make of a runner these ones in turn, and of the last of them the other
+abbrev pub BecomesBy : {R : Type 0} → (R → R → Type 0) → List R → R → R → Type 0
+BecomesBy {R} becomes [] old new = new ≡ old
+BecomesBy {R} becomes (next ∷ rest) old new = becomes old next × BecomesBy becomes rest next new
+
+-- some runs make of the first runner the second
+abbrev pub Becomes : {R : Type 0} → (R → R → Type 0) → R → R → Type 0
+Becomes {R} becomes old new = (between : List R) × BecomesBy becomes between old new
