@@ -165,6 +165,13 @@ impl Master {
         self.slots[i as usize]
     }
 
+    /// All slots, the lowest first, lent.
+    pub fn slots(&self) -> &[Slot]
+        ensures { result.now ≡ self.now.slots }
+    {
+        &self.slots
+    }
+
     // The phase before the phased order that isn't done, or the target.
     fn phase_before(&self) -> u32
         ensures { result ≡ phase_before self.now }
