@@ -97,11 +97,10 @@ plain_ends {H} m why.Hijacked V T p e = (e.h, e.rest, e.said, e.whole, e.sent, e
 -- its end
 end_at : {L B H : Type 0} {g : Ghosts B} (seen : L → Seen) (V : Voice H) (S : Stacks H) (number : ℕ) (link : L) (p : Inside B H g) (ended : Why)
     → p.at ≡ at.Over ended → AreLives p.lives.items → HoldsBy V (tell S p.lives.items p.local p.peer p.ending.closing) (seen link) p
-    → IsEnded L seen V S p.local (record { number = number; link = link; lives = p.lives; calls = p.calls; told = p.ending.told; closing = p.ending.closing; why = ended })
+    → IsEnded L seen V S p.local p.peer (record { number = number; link = link; lives = p.lives; calls = p.calls; told = p.ending.told; closing = p.ending.closing; why = ended })
 end_at {L} {B} {H} {g} seen V S number link p ended is lives h =
     let T : Teller H = tell S p.lives.items p.local p.peer p.ending.closing in
     record {
-      peer = p.peer;
       given = h.given;
       sent = h.sent;
       over = h.over;
@@ -114,11 +113,10 @@ end_at {L} {B} {H} {g} seen V S number link p ended is lives h =
 -- the same, with what was being said
 plain_end_at : {L B H : Type 0} {g : Ghosts B} (seen : L → Seen) (V : Voice H) (S : Stacks H) (number : ℕ) (link : L) (p : Inside B H g) (ended : Why)
     → p.at ≡ at.Over ended → HoldsBy V (tell S p.lives.items p.local p.peer p.ending.closing) (seen link) p
-    → IsPlainEnd L seen V S p.local p.ending (record { number = number; link = link; lives = p.lives; calls = p.calls; told = p.ending.told; closing = p.ending.closing; why = ended })
+    → IsPlainEnd L seen V S p.local p.peer p.ending (record { number = number; link = link; lives = p.lives; calls = p.calls; told = p.ending.told; closing = p.ending.closing; why = ended })
 plain_end_at {L} {B} {H} {g} seen V S number link p ended is h =
     let T : Teller H = tell S p.lives.items p.local p.peer p.ending.closing in
     record {
-      peer = p.peer;
       given = h.given;
       sent = h.sent;
       over = h.over;
@@ -128,17 +126,17 @@ plain_end_at {L} {B} {H} {g} seen V S number link p ended is h =
 
 pub plain_end_of : {L B H : Type 0} {g : Ghosts B} (seen : L → Seen) (V : Voice H) (S : Stacks H) (number : ℕ) (link : L) (p q : Inside B H g) (ended : Why)
     → q ≡ p → q.at ≡ at.Over ended → HoldsBy V (tell S p.lives.items p.local p.peer p.ending.closing) (seen link) p
-    → IsPlainEnd L seen V S p.local p.ending (record { number = number; link = link; lives = q.lives; calls = q.calls; told = q.ending.told; closing = q.ending.closing; why = ended })
+    → IsPlainEnd L seen V S p.local p.peer p.ending (record { number = number; link = link; lives = q.lives; calls = q.calls; told = q.ending.told; closing = q.ending.closing; why = ended })
 plain_end_of {L} {B} {H} {g} seen V S number link p q ended same is h =
-    subst (λ (x : Inside B H g). IsPlainEnd L seen V S p.local p.ending
+    subst (λ (x : Inside B H g). IsPlainEnd L seen V S p.local p.peer p.ending
     (record { number = number; link = link; lives = x.lives; calls = x.calls; told = x.ending.told; closing = x.ending.closing; why = ended })) (sym same)
     (plain_end_at seen V S number link p ended (sym (ap (λ (x : Inside B H g). x.at) same) ∙ is) h)
 
 pub end_of : {L B H : Type 0} {g : Ghosts B} (seen : L → Seen) (V : Voice H) (S : Stacks H) (number : ℕ) (link : L) (p q : Inside B H g) (ended : Why)
     → q ≡ p → q.at ≡ at.Over ended → AreLives p.lives.items → HoldsBy V (tell S p.lives.items p.local p.peer p.ending.closing) (seen link) p
-    → IsEnded L seen V S p.local (record { number = number; link = link; lives = q.lives; calls = q.calls; told = q.ending.told; closing = q.ending.closing; why = ended })
+    → IsEnded L seen V S p.local p.peer (record { number = number; link = link; lives = q.lives; calls = q.calls; told = q.ending.told; closing = q.ending.closing; why = ended })
 end_of {L} {B} {H} {g} seen V S number link p q ended same is lives h =
-    subst (λ (x : Inside B H g). IsEnded L seen V S p.local
+    subst (λ (x : Inside B H g). IsEnded L seen V S p.local p.peer
     (record { number = number; link = link; lives = x.lives; calls = x.calls; told = x.ending.told; closing = x.ending.closing; why = ended })) (sym same)
     (end_at seen V S number link p ended (sym (ap (λ (x : Inside B H g). x.at) same) ∙ is) lives h)
 
@@ -239,12 +237,11 @@ live_part {B} {H} (at.Over ended) V T s over given sent c live h = absurd (live 
 
 pub live_stands : {B H : Type 0} {g : Ghosts B} (V : Voice H) (S : Stacks H) (s : Seen) (p : Inside B H g) → state_at p.at ≢ state.Over
     → AreLives p.lives.items → HoldsBy V (tell S p.lives.items p.local p.peer p.ending.closing) s p
-    → StandsForTalk s V S p.local p.lives.items p.calls p.ending.closing (is_some p.ending.late)
+    → StandsForTalk s V S p.local p.peer p.lives.items p.calls p.ending.closing (is_some p.ending.late)
 live_stands {B} {H} {g} V S s p live lives h =
     let T : Teller H = tell S p.lives.items p.local p.peer p.ending.closing in
     let part : PartOf V T h.over h.given h.sent (kept p) (owed_at p.at p.ring.items) = live_part p.at V T s h.over h.given h.sent (kept p) live h.at in
     record {
-      peer = p.peer;
       given = h.given;
       sent = h.sent;
       over = h.over;

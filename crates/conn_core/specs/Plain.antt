@@ -43,9 +43,8 @@ EndsPlainly e (why.Halted level) V T p = (level ≡ 2) × ((lacks : List ℕ) ×
 EndsPlainly e why.NoMemory V T p = (lacks : List ℕ) × LacksPlainly (is_some e.late) V T p lacks
 EndsPlainly e why.Hijacked V T p = HijackedPlainly e.left V T p
 
--- an ended connection, of which this was told, over these stacks and hijackers and this local side
-pub record IsPlainEnd (L : Type 0) (seen : L → Seen) {H : Type 0} (V : Voice H) (S : Stacks H) (local : Local) (ending : Ending) (e : Ended L) : Type 0 where
-  pub peer : List ℕ
+-- an ended connection, of which this was told, over these stacks and hijackers, this local side and this peer
+pub record IsPlainEnd (L : Type 0) (seen : L → Seen) {H : Type 0} (V : Voice H) (S : Stacks H) (local : Local) (peer : List ℕ) (ending : Ending) (e : Ended L) : Type 0 where
   pub given : List ℕ
   pub sent : List ℕ
   pub over : Bool

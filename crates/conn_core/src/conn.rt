@@ -69,7 +69,7 @@ impl<L: Link, B: Body, H: Hijack + Drop> Conn<L, B, H> {
         ensures opened { IfOk result (λ c. (shown c ≡ opened peer local phase now) × (number_of c ≡ number) × (link_of c ≡ link)) }
         ensures holds { IfOk result (λ c. (S : Stacks H) → Holds L.seen (record { says = H.says; ends = H.ends }) S c) }
         ensures refused { IfErr result (λ e. IsUnopened number link e) }
-        ensures ended { IfErr result (λ e. (S : Stacks H) → IsEnded L L.seen (record { says = H.says; ends = H.ends }) S local e) }
+        ensures ended { IfErr result (λ e. (S : Stacks H) → IsEnded L L.seen (record { says = H.says; ends = H.ends }) S local peer e) }
     {
         match inside(alloc, peer, local, limits, phase, now) {
             Ok(inside) => Ok(Conn {
@@ -218,8 +218,8 @@ impl<L: Link, B: Body, H: Hijack + Drop> Conn<L, B, H> {
         ensures given { (result.number ≡ number_of self) × (result.link ≡ link_of self) × (result.calls ≡ (shown self).calls)
             × (result.lives.items ≡ (shown self).lives) }
         ensures rest { (result.told ≡ (shown self).ending.told) × (result.closing ≡ (shown self).ending.closing) }
-        ensures ended { (S : Stacks H) → Holds L.seen (record { says = H.says; ends = H.ends }) S self → IsEnded L L.seen (record { says = H.says; ends = H.ends }) S (shown self).local result }
-        ensures plainly { (S : Stacks H) → Holds L.seen (record { says = H.says; ends = H.ends }) S self → IsPlainEnd L L.seen (record { says = H.says; ends = H.ends }) S (shown self).local (shown self).ending result }
+        ensures ended { (S : Stacks H) → Holds L.seen (record { says = H.says; ends = H.ends }) S self → IsEnded L L.seen (record { says = H.says; ends = H.ends }) S (shown self).local (shown self).peer result }
+        ensures plainly { (S : Stacks H) → Holds L.seen (record { says = H.says; ends = H.ends }) S self → IsPlainEnd L L.seen (record { says = H.says; ends = H.ends }) S (shown self).local (shown self).peer (shown self).ending result }
         ensures any { (T : Teller H) → HoldsWith L.seen (record { says = H.says; ends = H.ends }) T self → EndsOver L L.seen (record { says = H.says; ends = H.ends }) T (shown self).peer (shown self).ending result }
     {
         let Conn {
@@ -278,7 +278,7 @@ impl<L: Link, B: Body, H: Hijack + Drop> Conn<L, B, H> {
     /// it; and where a refusal stands, all before it were run.
     pub fn stands(&self)
         ensures talk { (S : Stacks H) → (shown self.now).state ≢ State.Over → Holds L.seen (record { says = H.says; ends = H.ends }) S self.now
-            → StandsForTalk (L.seen (link_of self.now)) (record { says = H.says; ends = H.ends }) S (shown self.now).local (shown self.now).lives (shown self.now).calls
+            → StandsForTalk (L.seen (link_of self.now)) (record { says = H.says; ends = H.ends }) S (shown self.now).local (shown self.now).peer (shown self.now).lives (shown self.now).calls
             (shown self.now).ending.closing (is_some (shown self.now).ending.late) }
         ensures begun { (T : Teller H) → HoldsWith L.seen (record { says = H.says; ends = H.ends }) T self.now → BeginsRightly (L.seen (link_of self.now)) (shown self.now) }
     {

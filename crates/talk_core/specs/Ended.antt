@@ -135,9 +135,9 @@ pub record Shows (s : Seen) (peer given sent : List ℕ) (over : Bool) : Type 0 
   pub sent_is : Tells s.sent sent
   pub over_is : Tells s.over over
 
--- an ended connection, over these stacks and hijackers and this local side. `seen` is what contracts see of a link
-pub record IsEnded (L : Type 0) (seen : L → Seen) {H : Type 0} (V : Voice H) (S : Stacks H) (local : Local) (e : Ended L) : Type 0 where
-  pub peer : List ℕ
+-- an ended connection, over these stacks and hijackers, this local side and this peer. `seen` is what contracts see of a
+-- link
+pub record IsEnded (L : Type 0) (seen : L → Seen) {H : Type 0} (V : Voice H) (S : Stacks H) (local : Local) (peer : List ℕ) (e : Ended L) : Type 0 where
   pub given : List ℕ
   pub sent : List ℕ
   pub over : Bool
@@ -150,11 +150,10 @@ abbrev pub IsTimed : {H : Type 0} → Word H → Bool → Type 0
 IsTimed times_out timed = timed ≡ true
 IsTimed word timed = ⊤
 
--- a live connection stands for its talk, over these stacks and hijackers and this local side: `timed` from the
--- moment on at which its last request was timed out
-pub record StandsForTalk (s : Seen) {H : Type 0} (V : Voice H) (S : Stacks H) (local : Local) (lives : List Life) (calls : ℕ)
+-- a live connection stands for its talk, over these stacks and hijackers, this local side and this peer: `timed` from
+-- the moment on at which its last request was timed out
+pub record StandsForTalk (s : Seen) {H : Type 0} (V : Voice H) (S : Stacks H) (local : Local) (peer : List ℕ) (lives : List Life) (calls : ℕ)
     (closing : Option ℕ) (timed : Bool) : Type 0 where
-  pub peer : List ℕ
   pub given : List ℕ
   pub sent : List ℕ
   pub over : Bool
