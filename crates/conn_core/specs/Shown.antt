@@ -1,5 +1,5 @@
 -- What contracts see of a connection.
-use Rattle.std.specs.Prelude.{◌≡◌, ℕ, ◌-◌, ◌≤◌, Bool, true, List, [], ◌++◌, length, Option, None, Some}
+use Rattle.std.specs.Prelude.{◌≡◌, ℕ, ◌-◌, ◌≤◌, Bool, true, List, [], ◌++◌, length, Option, None, Some, if◌then◌else◌}
 use Rattle.rack_types.specs.declared.fault.Fault.{Fault}
 use Rattle.rack_types.specs.declared.peer.Local.{Local}
 use Rattle.rack_types.specs.declared.body.Body.{Ghosts}
@@ -167,6 +167,10 @@ shown {L} {B} {H} {g} c = shows c.inside.value
 
 abbrev pub number_of : {L B H : Type 0} {g : Ghosts B} → Conn L B H g → ℕ
 number_of {L} {B} {H} {g} c = c.number
+
+-- the key under which it was handed to a watcher last
+abbrev pub key_of : {L B H : Type 0} {g : Ghosts B} → Conn L B H g → Option ℕ
+key_of {L} {B} {H} {g} c = if c.watched then Some c.key else None
 
 abbrev pub link_of : {L B H : Type 0} {g : Ghosts B} → Conn L B H g → L
 link_of {L} {B} {H} {g} c = c.link

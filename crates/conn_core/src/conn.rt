@@ -11,7 +11,7 @@ ghost use Rattle.conn_core.specs.Moves.{IsOwing};
 ghost use Rattle.conn_core.specs.Owner.{BeginsRightly};
 ghost use Rattle.conn_core.specs.Plain.{IsPlainEnd, EndsOver};
 ghost use Rattle.conn_core.specs.Runs.{RunsOn};
-ghost use Rattle.conn_core.specs.Shown.{shown, number_of, link_of};
+ghost use Rattle.conn_core.specs.Shown.{shown, number_of, key_of, link_of};
 ghost use Rattle.conn_core.specs.Opened.{opened, IsUnopened, IsFresh};
 
 use crate::held::Held;
@@ -23,7 +23,7 @@ use crate::steps::begins;
 use circular_buffer::HeapCircularBuffer;
 use hijack_core::Hijack;
 use message_framing::Intake;
-use rack_outside::Link;
+use rack_outside::{Link, Numbered};
 use rack_types::{Body, Bytes, Env, Input, Limits, Local, NoMemory, Peer, Runner};
 use std::alloc::{AllocError, Global};
 use talk_core::{Ended, Life, Why};
@@ -43,8 +43,22 @@ const LIVES: usize = 64;
 #[derive(Drop)]
 pub struct Conn<L, B: Body, H> {
     pub(crate) number: u32,
+    // Whether it was handed to a watcher, and the key under which it was last. As an `Option` they would take 8 bytes
+    // more.
+    pub(crate) watched: bool,
+    pub(crate) key: usize,
     pub(crate) link: L,
     pub(crate) inside: Box<Inside<B, H>>,
+}
+
+impl<L: Link, B: Body, H> Numbered for Conn<L, B, H> {
+    ghost tag = { λ c. (L.seen (link_of c)).tag };
+
+    ghost number_of = { λ c. number_of c };
+
+    fn number(&self) -> u32 {
+        self.number
+    }
 }
 
 impl<L: Link, B: Body, H: Hijack + Drop> Conn<L, B, H> {
@@ -67,6 +81,7 @@ impl<L: Link, B: Body, H: Hijack + Drop> Conn<L, B, H> {
         requires limits { limits ≡ stock_limits }
         requires fresh { Shows (L.seen link) peer [] [] false }
         ensures opened { IfOk result (λ c. (shown c ≡ opened peer local phase now) × (number_of c ≡ number) × (link_of c ≡ link)) }
+        ensures unwatched { IfOk result (λ c. key_of c ≡ None) }
         ensures holds { IfOk result (λ c. (S : Stacks H) → Holds L.seen (record { says = H.says; ends = H.ends }) S c) }
         ensures refused { IfErr result (λ e. IsUnopened number link e) }
         ensures ended { IfErr result (λ e. (S : Stacks H) → IsEnded L L.seen (record { says = H.says; ends = H.ends }) S local peer e) }
@@ -74,6 +89,8 @@ impl<L: Link, B: Body, H: Hijack + Drop> Conn<L, B, H> {
         match inside(alloc, peer, local, limits, phase, now) {
             Ok(inside) => Ok(Conn {
                 number,
+                watched: false,
+                key: 0,
                 link,
                 inside,
             }),
@@ -132,6 +149,19 @@ impl<L: Link, B: Body, H: Hijack + Drop> Conn<L, B, H> {
         is_saying(&self.inside.at)
     }
 
+    /// The key under which it was handed to a watcher last; none before that.
+    pub fn key(&self) -> Option<usize>
+        ensures { result ≡ key_of self.now }
+    {
+        if self.watched { Some(self.key) } else { None }
+    }
+
+    /// Whether the last read of its link had to wait, so that one more at once would find nothing. False
+    /// before the first read. It saves such a read, and no clause speaks of it.
+    pub fn read_waited(&self) -> bool {
+        self.inside.held.waited()
+    }
+
     /// Its link, lent.
     pub fn link(&self) -> &L
         ensures { result.now ≡ link_of self.now }
@@ -146,6 +176,7 @@ impl<L: Link, B: Body, H: Hijack + Drop> Conn<L, B, H> {
     pub fn feed(&mut self, now: u64) -> Next
         requires reading { MayFeed (shown self.old) }
         ensures number { number_of self.new ≡ number_of self.old }
+        ensures key { key_of self.new ≡ key_of self.old }
         ensures feeds { Feeds now result (reaching now (shown self.old)) (shown self.new) (L.seen (link_of self.old)) (L.seen (link_of self.new)) }
         ensures any { (T : Teller H) → HoldsWith L.seen (record { says = H.says; ends = H.ends }) T self.old → HoldsWith L.seen (record { says = H.says; ends = H.ends }) T self.new }
         ensures holds { (S : Stacks H) → Holds L.seen (record { says = H.says; ends = H.ends }) S self.old → Holds L.seen (record { says = H.says; ends = H.ends }) S self.new }
@@ -176,6 +207,7 @@ impl<L: Link, B: Body, H: Hijack + Drop> Conn<L, B, H> {
         requires ready { (shown self.old).state ≡ State.Ready }
         requires room { R.runs runner.old ≤ 2 ^ 64 - 11 }
         ensures number { number_of self.new ≡ number_of self.old }
+        ensures key { key_of self.new ≡ key_of self.old }
         ensures turns { Turns now result (reaching now (shown self.old)) (shown self.new) (L.seen (link_of self.old)) (L.seen (link_of self.new)) }
         ensures rightly { (T : Teller H) → HoldsWith L.seen (record { says = H.says; ends = H.ends }) T self.old → TurnsRightly now (reaching now (shown self.old)) (shown self.new) (L.seen (link_of self.old)) (L.seen (link_of self.new)) }
         ensures runs { R.runs runner.new + (shown self.old).calls ≡ R.runs runner.old + (shown self.new).calls }
@@ -202,6 +234,7 @@ impl<L: Link, B: Body, H: Hijack + Drop> Conn<L, B, H> {
     pub fn flush(&mut self, now: u64) -> Next
         requires owes { IsOwing (shown self.old) }
         ensures number { number_of self.new ≡ number_of self.old }
+        ensures key { key_of self.new ≡ key_of self.old }
         ensures flushes { Flushes now result (reaching now (shown self.old)) (shown self.new) (L.seen (link_of self.old)) (L.seen (link_of self.new)) }
         ensures any { (T : Teller H) → HoldsWith L.seen (record { says = H.says; ends = H.ends }) T self.old → HoldsWith L.seen (record { says = H.says; ends = H.ends }) T self.new }
         ensures holds { (S : Stacks H) → Holds L.seen (record { says = H.says; ends = H.ends }) S self.old → Holds L.seen (record { says = H.says; ends = H.ends }) S self.new }
@@ -224,6 +257,8 @@ impl<L: Link, B: Body, H: Hijack + Drop> Conn<L, B, H> {
     {
         let Conn {
             number,
+            watched: _,
+            key: _,
             link,
             inside,
         } = self;
@@ -265,6 +300,8 @@ impl<L: Link, B: Body, H: Hijack + Drop> Conn<L, B, H> {
     {
         let Conn {
             number: _,
+            watched: _,
+            key: _,
             link,
             inside,
         } = self;

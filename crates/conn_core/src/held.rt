@@ -18,6 +18,8 @@ pub(crate) struct Held {
     piece: Vec<u8>,
     from: usize,
     to: usize,
+    // Whether the last read had to wait.
+    waited: bool,
 }
 
 impl Model for Held {
@@ -39,6 +41,7 @@ impl Held {
             piece: Vec::with_capacity(alloc, PIECE)?,
             from: 0,
             to: 0,
+            waited: false,
         })
     }
 
@@ -52,6 +55,7 @@ impl Held {
             self.piece.resize(PIECE, 0).unwrap();
         }
         let read = link.read(self.piece.as_mut_slice());
+        self.waited = matches!(read, LinkRead::NotYet);
         self.from = 0;
         self.to = match read {
             LinkRead::Bytes(n) => n,
@@ -66,6 +70,11 @@ impl Held {
         ensures few { length result.now ≤ 16384 }
     {
         &self.piece[self.from.min(self.to)..self.to]
+    }
+
+    // Whether the last read had to wait. False before the first.
+    pub(crate) fn waited(&self) -> bool {
+        self.waited
     }
 
     // Lets the first n of them go.

@@ -1,6 +1,6 @@
 // What its owner does with a connection beside moving it on: it ends it, places it anew, tells it the time or a drain, or
 // lends its link out.
-ghost use Rattle.std.specs.Prelude.{◌≡◌, ◌≢◌, ◌<◌, ◌≤◌, ◌↔◌, [], ◌∷◌, IsTrue, false};
+ghost use Rattle.std.specs.Prelude.{◌≡◌, ◌≢◌, ◌<◌, ◌≤◌, ◌↔◌, [], ◌∷◌, IsTrue, false, Some};
 ghost use Rattle.rack_outside.specs.Link.{Seen, IsTouched};
 ghost use Rattle.rack_outside.specs.Told.{Rose};
 ghost use Rattle.talk_core.specs.Ended.{AreLives};
@@ -10,7 +10,7 @@ ghost use Rattle.conn_core.specs.Holds.{Holds, HoldsBy, HoldsWith};
 ghost use Rattle.conn_core.specs.Keeps.{reaching};
 ghost use Rattle.conn_core.specs.Moments.{Passed};
 ghost use Rattle.conn_core.specs.Owner.{ended_as, EndsAnyTime, IsUnread, PlacedIn, Ticks, drained, drained_in, DrainTells};
-ghost use Rattle.conn_core.specs.Shown.{shows, shown, number_of, link_of};
+ghost use Rattle.conn_core.specs.Shown.{shows, shown, number_of, key_of, link_of};
 
 use crate::conn::Conn;
 use crate::hijack::let_leave;
@@ -225,6 +225,7 @@ impl<L: Link, B: Body, H: Hijack + Drop> Conn<L, B, H> {
     pub fn place(&mut self, phase: u32)
         requires unread { IsUnread (shown self.old) }
         ensures number { number_of self.new ≡ number_of self.old }
+        ensures key { key_of self.new ≡ key_of self.old }
         ensures link { link_of self.new ≡ link_of self.old }
         ensures placed { PlacedIn phase (shown self.old) (shown self.new) }
         ensures any { (V : Voice H) (T : Teller H) → HoldsWith L.seen V T self.old → HoldsWith L.seen V T self.new }
@@ -246,6 +247,7 @@ impl<L: Link, B: Body, H: Hijack + Drop> Conn<L, B, H> {
     pub fn tick(&mut self, now: u64) -> Tick
         requires live { (shown self.old).state ≢ State.Over }
         ensures number { number_of self.new ≡ number_of self.old }
+        ensures key { key_of self.new ≡ key_of self.old }
         ensures link { link_of self.new ≡ link_of self.old }
         ensures ticks { Ticks result now (reaching now (shown self.old)) (shown self.new) }
         ensures any { (V : Voice H) (T : Teller H) → HoldsWith L.seen V T self.old → HoldsWith L.seen V T self.new }
@@ -266,6 +268,7 @@ impl<L: Link, B: Body, H: Hijack + Drop> Conn<L, B, H> {
     pub fn tell_drain(&mut self, level: u64) -> Told
         requires level { 1 ≤ level }
         ensures number { number_of self.new ≡ number_of self.old }
+        ensures key { key_of self.new ≡ key_of self.old }
         ensures link { link_of self.new ≡ link_of self.old }
         ensures leaves { shown self.new ≡ drained level (shown self.old) }
         ensures tells { DrainTells result (shown self.new) }
@@ -282,6 +285,7 @@ impl<L: Link, B: Body, H: Hijack + Drop> Conn<L, B, H> {
         requires unread { IsUnread (shown self.old) }
         requires level { 1 ≤ level }
         ensures number { number_of self.new ≡ number_of self.old }
+        ensures key { key_of self.new ≡ key_of self.old }
         ensures link { link_of self.new ≡ link_of self.old }
         ensures ends { shown self.new ≡ ended_as (Why.Unread level) (shown self.old) }
         ensures any { (V : Voice H) (T : Teller H) → HoldsWith L.seen V T self.old → HoldsWith L.seen V T self.new }
@@ -296,6 +300,7 @@ impl<L: Link, B: Body, H: Hijack + Drop> Conn<L, B, H> {
     pub fn halt(&mut self, level: u64)
         requires level { level ≡ 2 }
         ensures number { number_of self.new ≡ number_of self.old }
+        ensures key { key_of self.new ≡ key_of self.old }
         ensures link { link_of self.new ≡ link_of self.old }
         ensures over { (shown self.old).state ≡ State.Over → shown self.new ≡ shown self.old }
         ensures ends { (shown self.old).state ≢ State.Over → shown self.new ≡ ended_as (Why.Halted level) (shown self.old) }
@@ -313,6 +318,7 @@ impl<L: Link, B: Body, H: Hijack + Drop> Conn<L, B, H> {
     pub fn end_for_memory(&mut self)
         requires live { (shown self.old).state ≢ State.Over }
         ensures number { number_of self.new ≡ number_of self.old }
+        ensures key { key_of self.new ≡ key_of self.old }
         ensures link { link_of self.new ≡ link_of self.old }
         ensures ends { shown self.new ≡ ended_as Why.NoMemory (shown self.old) }
         ensures any { (V : Voice H) (T : Teller H) → HoldsWith L.seen V T self.old → HoldsWith L.seen V T self.new }
@@ -323,10 +329,11 @@ impl<L: Link, B: Body, H: Hijack + Drop> Conn<L, B, H> {
     }
 
     /// Hands its link to a watcher once, to be watched under this key for reading, and for writing where bytes
-    /// are owed, and answers what the watcher answers. Nothing else of it changes.
+    /// are owed, and answers what the watcher answers. It keeps the key, whatever that is. Nothing else of it changes.
     pub fn watch<W: Watcher<L>>(&mut self, watcher: &mut W, key: usize) -> bool
         ensures shown { shown self.new ≡ shown self.old }
         ensures number { number_of self.new ≡ number_of self.old }
+        ensures key { key_of self.new ≡ Some key }
         ensures link { L.seen (link_of self.new) ≡ L.seen (link_of self.old) }
         ensures later { W.faults watcher.old ≤ W.faults watcher.new }
         ensures failed { result ≡ false → Rose (W.faults watcher.old) (W.faults watcher.new) }
@@ -334,6 +341,8 @@ impl<L: Link, B: Body, H: Hijack + Drop> Conn<L, B, H> {
         ensures any { (V : Voice H) (T : Teller H) → HoldsWith L.seen V T self.old → HoldsWith L.seen V T self.new }
         ensures holds { (V : Voice H) (S : Stacks H) → Holds L.seen V S self.old → Holds L.seen V S self.new }
     {
+        self.watched = true;
+        self.key = key;
         let write = is_saying(&self.inside.at);
         watcher.watch(key, &mut self.link, write)
     }
@@ -342,6 +351,7 @@ impl<L: Link, B: Body, H: Hijack + Drop> Conn<L, B, H> {
     pub fn forget<W: Watcher<L>>(&mut self, watcher: &mut W, key: usize)
         ensures shown { shown self.new ≡ shown self.old }
         ensures number { number_of self.new ≡ number_of self.old }
+        ensures key { key_of self.new ≡ key_of self.old }
         ensures link { L.seen (link_of self.new) ≡ L.seen (link_of self.old) }
         ensures later { W.faults watcher.old ≤ W.faults watcher.new }
         ensures named { W.named watcher.new ≡ W.named watcher.old }
@@ -355,6 +365,7 @@ impl<L: Link, B: Body, H: Hijack + Drop> Conn<L, B, H> {
     pub fn touch<T: Touch<L>>(&mut self, touch: &mut T) -> T::Said
         ensures shown { shown self.new ≡ shown self.old }
         ensures number { number_of self.new ≡ number_of self.old }
+        ensures key { key_of self.new ≡ key_of self.old }
         ensures keeps { IsTouched (L.seen (link_of self.old)) (L.seen (link_of self.new)) }
         ensures relates { T.relates touch.old (link_of self.old) result (link_of self.new) }
         ensures any { (V : Voice H) (t : Teller H) → HoldsWith L.seen V t self.old → HoldsWith L.seen V t self.new }

@@ -19,6 +19,8 @@ mod halts;
 #[cfg(test)]
 mod idle;
 #[cfg(test)]
+mod keys;
+#[cfg(test)]
 mod late;
 #[cfg(test)]
 mod leaves;
