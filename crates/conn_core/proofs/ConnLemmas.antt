@@ -81,7 +81,7 @@ ended_lives [] ended p h = absurd h
 ended_lives (life ∷ lives) ended p h = h
 
 -- an end whose word is named is an end
-plain_ends : {H : Type 0} (m : Ending) (ended : Why) (V : Voice H) (T : Teller H) (p : Past) → EndsPlainly m ended V T p → EndsBy ended V T p
+pub plain_ends : {H : Type 0} (m : Ending) (ended : Why) (V : Voice H) (T : Teller H) (p : Past) → EndsPlainly m ended V T p → EndsBy ended V T p
 plain_ends {H} m why.Closed V T p e = e
 plain_ends {H} m why.PeerEnd V T p e = e
 plain_ends {H} m (why.Idle by) V T p e = e

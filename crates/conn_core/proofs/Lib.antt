@@ -31,4 +31,8 @@ pub mod UnreadLemmas
 pub mod TickLemmas
 pub mod DrainLemmas
 pub mod StandsLemmas
+pub mod WithinLemmas
+pub mod TransferLemmas
+pub mod StoppingLemmas
+pub mod LevelLemmas
 pub mod CallerLemmas

@@ -13,3 +13,6 @@ pub mod Answers
 pub mod Opened
 pub mod Runs
 pub mod Owner
+pub mod Within
+pub mod Transfer
+pub mod Stopping

@@ -15,3 +15,4 @@ pub use Rattle.talk_core.proofs.ShowsLemmas.{tells_appended, tells_marked, shows
 pub use Rattle.talk_core.proofs.CountLemmas.{counted_next, counted_more, lacks_some, taken_more}
 pub use Rattle.talk_core.proofs.TextLemmas.{begins_answer, begins_less}
 pub use Rattle.talk_core.proofs.AnswerLemmas.{one_answer, undrained, answer_whole, answer_closed, closed_on, answer_handed, answer_stopped, stopped_on, hijack_stops, hijack_untimed, failure_ends, stands_more}
+pub use Rattle.talk_core.proofs.UndrainedLemmas.{one_hijack}

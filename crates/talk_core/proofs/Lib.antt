@@ -17,4 +17,5 @@ mod ShowsLemmas
 mod StandsLemmas
 mod TalkLemmas
 mod TextLemmas
+mod UndrainedLemmas
 mod WorkedRows

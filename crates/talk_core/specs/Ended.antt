@@ -183,3 +183,12 @@ WhyByDrain {H} why.Hijacked V T p =
 
 abbrev pub ByDrain : {H : Type 0} → Why → Voice H → Teller H → Past → Type 0
 ByDrain ended V T p = IsSome p.closing ⊎ WhyByDrain ended V T p
+
+-- an ended connection, over these stacks and hijackers, this local side and this peer, that no drain ended
+pub record IsUndrained (L : Type 0) (seen : L → Seen) {H : Type 0} (V : Voice H) (S : Stacks H) (local : Local) (peer : List ℕ) (e : Ended L) : Type 0 where
+  pub given : List ℕ
+  pub sent : List ℕ
+  pub over : Bool
+  pub shows : Shows (seen e.link) peer given sent over
+  pub ends : EndsBy e.why V (tell S e.lives.items local peer e.closing) (past_of (seen e.link) e given sent over)
+  pub undrained : ¬ (ByDrain e.why V (tell S e.lives.items local peer e.closing) (past_of (seen e.link) e given sent over))
