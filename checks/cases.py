@@ -12,6 +12,7 @@ import tempfile
 
 import bodies
 import connections
+import documents
 import endpoints
 import heads
 import hijacks
@@ -31,6 +32,7 @@ GROUPS = (
     scripts.check_scripts,
     launcher.check_use, launcher.check_builds,
     words.check_words, words.check_options, words.check_help, words.check_files,
+    documents.check_names,
     stacks.check_rules, stacks.check_written, stacks.check_arguments, stacks.check_file_sizes,
     random_stacks.check_random, middleware.check_answers, middleware.check_methods,
     places.check_rows, places.check_places, places.check_defaults, places.check_cascades, places.check_largest,
