@@ -29,24 +29,16 @@ def first_words(text):
     return sorted(part.split()[0] for part in parts if part.split())
 
 
-def snake(name):
-    """`ContentType` as a stack file spells it."""
-    return re.sub(r"(?<=[a-z])(?=[A-Z])", "_", name).lower()
-
-
 def check_names(checks):
     checks.begin("names in documents")
     asked = (run(["--help"]) or (None, b"", b""))[1].decode("ascii", "replace")
-    stacks, rules, readme = text_of("docs", "STACKS.md"), text_of("docs", "DEFINITIONS.md"), text_of("README.md")
+    stacks, readme = text_of("docs", "STACKS.md"), text_of("README.md")
     example = text_of("examples", "everything.stack")
     found = {
         ("--help", "use"): first_words(between(asked, "  Middleware", "  Endpoints")),
         ("--help", "run"): first_words(between(asked, "  Endpoints", "  Blocks")),
         ("README", "use"): first_words(between(readme, "middleware (", ")").replace("`", "")),
         ("README", "run"): first_words(between(readme, "endpoints (", ")").replace("`", "")),
-        ("DEFINITIONS", "use"): sorted(map(snake, re.findall(r"^\| ([A-Z]\w+)(?:\([^)]*\))? \| (?!What)",
-                                                             section(rules, "Middleware"), re.M))),
-        ("DEFINITIONS", "run"): sorted(re.findall(r"^\| `([a-z_]+)", section(rules, "Endpoints"), re.M)),
     }
     for verb, heading in (("use", "Middleware"), ("run", "Endpoints")):
         rows = section(stacks, heading)
