@@ -1,4 +1,4 @@
-"""That what is told of stack files names each middleware and each endpoint of the tables, and no other."""
+"""That what is told of stack files names each middleware, each endpoint and each rule that there is, and no other."""
 
 import os
 import re
@@ -34,7 +34,10 @@ def check_names(checks):
     asked = (run(["--help"]) or (None, b"", b""))[1].decode("ascii", "replace")
     stacks, readme = text_of("docs", "STACKS.md"), text_of("README.md")
     example = text_of("examples", "everything.stack")
+    canon = text_of("crates", "stack_file", "specs", "Canon.antt")
     found = {
+        ("definitions", "use"): sorted(re.findall(r'^ware_words .*?= codes "(\w+)"', canon, re.M)),
+        ("definitions", "run"): sorted(re.findall(r'^app_words .*?= codes "(\w+)"', canon, re.M)),
         ("--help", "use"): first_words(between(asked, "  Middleware", "  Endpoints")),
         ("--help", "run"): first_words(between(asked, "  Endpoints", "  Blocks")),
         ("README", "use"): first_words(between(readme, "middleware (", ")").replace("`", "")),
@@ -46,3 +49,6 @@ def check_names(checks):
         found["everything.stack", verb] = sorted(set(re.findall(rf"^ *{verb} +(\S+)", example, re.M)))
     for (document, verb), names in found.items():
         checks.counts(f"{document}, what `{verb}` can name", NAMES[verb], names)
+    rules = [f"S{number}" for number in range(1, 10)]
+    checks.counts("--help, each rule of stack files", rules, re.findall(r"^  (S\d) ", asked, re.M)[:9])
+    checks.counts("STACKS, each rule of stack files", rules, re.findall(r"^\| (S\d) ", stacks, re.M))
