@@ -50,5 +50,5 @@ def check_names(checks):
     for (document, verb), names in found.items():
         checks.counts(f"{document}, what `{verb}` can name", NAMES[verb], names)
     rules = [f"S{number}" for number in range(1, 10)]
-    checks.counts("--help, each rule of stack files", rules, re.findall(r"^  (S\d) ", asked, re.M)[:9])
+    checks.counts("--help, each rule of stack files", rules, sorted(set(re.findall(r"^  (S\d) ", asked, re.M))))
     checks.counts("STACKS, each rule of stack files", rules, re.findall(r"^\| (S\d) ", stacks, re.M))
