@@ -2,7 +2,8 @@ pub mod PlaceLemmas
 pub mod FeedLemmas
 pub mod HeldLemmas
 pub mod PrepareLemmas
-pub mod ReadLemmas
+pub mod RanLemmas
+mod ReadLemmas
 pub mod HijackLemmas
 pub mod BeginLemmas
 pub mod SayLemmas
@@ -35,4 +36,5 @@ pub mod WithinLemmas
 pub mod TransferLemmas
 pub mod StoppingLemmas
 pub mod LevelLemmas
+pub mod AnyLemmas
 pub mod CallerLemmas

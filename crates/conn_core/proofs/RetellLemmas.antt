@@ -18,7 +18,6 @@ use Rattle.conn_core.specs.declared.place.At.{At}
 use Rattle.conn_core.specs.declared.place.At.TheVariants as at
 use Rattle.conn_core.specs.Holds.{Kept, past, Between, Replying, Handed, Refuses, HoldsAt, StandsAt, HoldsBy}
 use Rattle.conn_core.specs.Plain.{EndsPlainly}
-use Rattle.conn_core.specs.Runs.{RunsBy}
 
 module _ {H : Type 0} (V : Voice H) (T U : Teller H) (s : Seen) (over : Bool) (given sent : List ℕ) (c : Kept) (same : AgreesBelow c.calls T U) where
   between_agrees : (now : List ℕ) → Between V T over given sent c now → Between V U over given sent c now
@@ -165,20 +164,3 @@ retold {B} {H} V T U s peer a c same h = record {
   counts = h.counts;
   at = retold_at V T U s h.over h.given h.sent c same a h.at;
 }
-
--- behind some runs, and then more
-pub more_runs : {B H : Type 0} {g : Ghosts B} (V : Voice H) (T : Teller H) (n m : ℕ) (s s' : Seen) (p q : Inside B H g) → n ≤ m → RunsBy V T n s p
-    → ((U : Teller H) → HoldsBy V U s p → RunsBy V U m s' q) → RunsBy V T n s' q
-more_runs {B} {H} {g} V T n m s s' p q few x next =
-    let y = next x.teller x.stands in
-    record { teller = y.teller; before = agrees_trans T x.teller y.teller n m few x.before y.before; stands = y.stands }
-
--- without a run
-pub no_run : {B H : Type 0} {g : Ghosts B} (V : Voice H) (T : Teller H) (n : ℕ) (s : Seen) (p : Inside B H g) → HoldsBy V T s p → RunsBy V T n s p
-no_run {B} {H} {g} V T n s p h = record { teller = T; before = agrees_same T n; stands = h }
-
--- over the same connection
-pub runs_of_same : {B H : Type 0} {g : Ghosts B} (V : Voice H) (T : Teller H) (s s' : Seen) (old mid new : Inside B H g) → mid ≡ old
-    → (HoldsBy V T s mid → RunsBy V T mid.calls s' new) → HoldsBy V T s old → RunsBy V T old.calls s' new
-runs_of_same {B} {H} {g} V T s s' old mid new e runs h =
-    subst (λ (x : Inside B H g). RunsBy V T x.calls s' new) e (runs (subst (λ (x : Inside B H g). HoldsBy V T s x) (sym e) h))

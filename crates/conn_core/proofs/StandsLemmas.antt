@@ -20,7 +20,6 @@ use Rattle.conn_core.specs.declared.state.State.TheVariants as state
 use Rattle.conn_core.specs.Holds.{kept, HoldsAt, HoldsBy}
 use Rattle.conn_core.specs.Owner.{RefusesNext, BeginsRightly, ReadsOn, StandsNext}
 use Rattle.conn_core.specs.Place.{state_at}
-use Rattle.conn_core.specs.Runs.{RunsBy}
 use Rattle.conn_core.specs.Rests.{BegunAs, Begins}
 use Rattle.conn_core.specs.Keeps.{BegunNow}
 use Rattle.conn_core.specs.Shown.{shows, fault_at}
@@ -114,11 +113,6 @@ begins_rightly {B} {H} {g} V T s p h = record {
   stands = λ ready none. stands_next V T s p ready none h;
   refuses = λ f ready is. refuses_next V T s p f ready is h;
 }
-
--- the same over any replies
-pub runs_rightly : {B H : Type 0} {g : Ghosts B} (V : Voice H) (T : Teller H) (calls : ℕ) (s : Seen) (p : Inside B H g) → RunsBy V T calls s p
-    → BeginsRightly s (shows p)
-runs_rightly {B} {H} {g} V T calls s p r = begins_rightly V r.teller s p r.stands
 
 -- no request is begun at the opening
 pub fresh_begun : (intake : Intake) (now : ℕ) (begun : Option ℕ) → Fed intake [] → ((b : List ℕ) → Fed intake b → BegunAs begun b) → BegunNow now None begun

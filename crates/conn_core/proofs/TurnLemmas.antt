@@ -475,7 +475,7 @@ not_yet k i below = ap (λ (b : Bool). (i == 9999) || b) (differs i k below)
     differs : (n m : ℕ) → n < m → (n == m) ≡ false
     differs n m lt = grind (arith, nat_tests, lt)
 
-last_before : (o n : Shown) (i : ℕ) → i < o.calls → (n.ending.closing ≡ o.ending.closing) ⊎ DrainsOnce o n
+pub last_before : (o n : Shown) (i : ℕ) → i < o.calls → (n.ending.closing ≡ o.ending.closing) ⊎ DrainsOnce o n
     → is_last n.ending.closing i ≡ is_last o.ending.closing i
 last_before o n i below e =
     elim e [

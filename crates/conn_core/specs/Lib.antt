@@ -11,7 +11,8 @@ pub mod Calls
 pub mod Inner
 pub mod Answers
 pub mod Opened
-pub mod Runs
+pub mod Ran
+pub mod RunOnce
 pub mod Owner
 pub mod Within
 pub mod Transfer

@@ -8,7 +8,7 @@ ghost use Rattle.conn_core.specs.Inner.{runs_of, TellsFrom, RunsOnce, TakesUp, w
 ghost use Rattle.conn_core.specs.Keeps.{Keeps, Refusal, drains_now};
 ghost use Rattle.conn_core.specs.Moves.{NamesFault};
 ghost use Rattle.conn_core.specs.Place.{state_at};
-ghost use Rattle.conn_core.specs.Runs.{RunsBy};
+ghost use Rattle.conn_core.specs.Ran.{Ran};
 ghost use Rattle.conn_core.specs.Shown.{shows};
 
 use crate::held::Held;
@@ -60,7 +60,8 @@ impl<B: Body, H: Hijack + Drop> Inside<B, H> {
         ensures holds { (T : Teller H) (s : Seen)
             → TellsFrom T (R.answer runner.old) self.old.local self.old.peer self.new.ending.closing self.old.calls self.new.calls
             → HoldsBy (record { says = H.says; ends = H.ends }) T s self.old → HoldsBy (record { says = H.says; ends = H.ends }) T s self.new }
-        ensures any { (T : Teller H) (s : Seen) → HoldsBy (record { says = H.says; ends = H.ends }) T s self.old → RunsBy (record { says = H.says; ends = H.ends }) T self.old.calls s self.new }
+        ensures any { (T : Teller H) (s : Seen) → HoldsBy (record { says = H.says; ends = H.ends }) T s self.old
+            → Ran (λ U. HoldsBy (record { says = H.says; ends = H.ends }) U s self.new) T R.answer self.old.calls s s (shows self.new) (R.answered runner.old) (R.answered runner.new) (R.asked runner.old) (R.asked runner.new) }
         ensures runs { RunsOnce now result (shows self.old) (shows self.new) }
         ensures counts { R.runs runner.new ≡ R.runs runner.old + runs_of result }
         ensures steady { R.steady ≡ true → (ps : Pairs) (input : List ℕ) → R.answer runner.new ps input ≡ R.answer runner.old ps input }
@@ -104,7 +105,8 @@ impl<B: Body, H: Hijack + Drop> Inside<B, H> {
         ensures holds { (T : Teller H) (s : Seen)
             → TellsFrom T (R.answer runner.old) self.old.local self.old.peer self.new.ending.closing self.old.calls self.new.calls
             → HoldsBy (record { says = H.says; ends = H.ends }) T s self.old → HoldsBy (record { says = H.says; ends = H.ends }) T s self.new }
-        ensures any { (T : Teller H) (s : Seen) → HoldsBy (record { says = H.says; ends = H.ends }) T s self.old → RunsBy (record { says = H.says; ends = H.ends }) T self.old.calls s self.new }
+        ensures any { (T : Teller H) (s : Seen) → HoldsBy (record { says = H.says; ends = H.ends }) T s self.old
+            → Ran (λ U. HoldsBy (record { says = H.says; ends = H.ends }) U s self.new) T R.answer self.old.calls s s (shows self.new) (R.answered runner.old) (R.answered runner.new) (R.asked runner.old) (R.asked runner.new) }
         ensures takes { TakesUp now (left.old.runs - left.new.runs) (shows self.old) (shows self.new) }
         ensures left { left.new ≡ record left.old { runs = left.new.runs } }
         ensures few { left.new.runs ≤ left.old.runs }

@@ -10,7 +10,7 @@ ghost use Rattle.conn_core.specs.Keeps.{reaching};
 ghost use Rattle.conn_core.specs.Moves.{IsOwing};
 ghost use Rattle.conn_core.specs.Owner.{BeginsRightly};
 ghost use Rattle.conn_core.specs.Plain.{IsPlainEnd, EndsOver};
-ghost use Rattle.conn_core.specs.Runs.{RunsOn};
+ghost use Rattle.conn_core.specs.Ran.{Ran};
 ghost use Rattle.conn_core.specs.Shown.{shown, number_of, key_of, link_of};
 ghost use Rattle.conn_core.specs.Opened.{opened, IsUnopened, IsFresh};
 
@@ -212,7 +212,9 @@ impl<L: Link, B: Body, H: Hijack + Drop> Conn<L, B, H> {
         ensures rightly { (T : Teller H) → HoldsWith L.seen (record { says = H.says; ends = H.ends }) T self.old → TurnsRightly now (reaching now (shown self.old)) (shown self.new) (L.seen (link_of self.old)) (L.seen (link_of self.new)) }
         ensures runs { R.runs runner.new + (shown self.old).calls ≡ R.runs runner.old + (shown self.new).calls }
         ensures steady { R.steady ≡ true → (ps : Pairs) (input : List ℕ) → R.answer runner.new ps input ≡ R.answer runner.old ps input }
-        ensures any { (T : Teller H) → HoldsWith L.seen (record { says = H.says; ends = H.ends }) T self.old → RunsOn L.seen (record { says = H.says; ends = H.ends }) T (shown self.old).calls self.new }
+        ensures any { (T : Teller H) → HoldsWith L.seen (record { says = H.says; ends = H.ends }) T self.old
+            → Ran (λ U. HoldsWith L.seen (record { says = H.says; ends = H.ends }) U self.new) T R.answer (shown self.old).calls (L.seen (link_of self.old)) (L.seen (link_of self.new)) (shown self.new)
+            (R.answered runner.old) (R.answered runner.new) (R.asked runner.old) (R.asked runner.new) }
         ensures holds { (S : Stacks H) → R.steady ≡ true
             → ((ps : Pairs) (input : List ℕ) → S (last_phase (shown self.old).lives) ps input ≡ R.answer runner.old ps input)
             → Holds L.seen (record { says = H.says; ends = H.ends }) S self.old → Holds L.seen (record { says = H.says; ends = H.ends }) S self.new }

@@ -6,7 +6,7 @@ ghost use Rattle.conn_core.specs.Calls.{Turns, TurnsRightly};
 ghost use Rattle.conn_core.specs.Holds.{HoldsBy};
 ghost use Rattle.conn_core.specs.Inner.{TellsFrom, Steps, StepLeaves, StepMoves};
 ghost use Rattle.conn_core.specs.Place.{IsSaying, state_at as place_as};
-ghost use Rattle.conn_core.specs.Runs.{RunsBy};
+ghost use Rattle.conn_core.specs.Ran.{Ran};
 ghost use Rattle.conn_core.specs.Shown.{shows};
 
 use crate::answers::{replied_at, turned};
@@ -56,7 +56,9 @@ impl<B: Body, H: Hijack + Drop> Inside<B, H> {
         ensures holds { (T : Teller H)
             → TellsFrom T (R.answer runner.old) self.old.local self.old.peer self.new.ending.closing self.old.calls self.new.calls
             → HoldsBy (record { says = H.says; ends = H.ends }) T (L.seen link.old) self.old → HoldsBy (record { says = H.says; ends = H.ends }) T (L.seen link.new) self.new }
-        ensures any { (T : Teller H) → HoldsBy (record { says = H.says; ends = H.ends }) T (L.seen link.old) self.old → RunsBy (record { says = H.says; ends = H.ends }) T self.old.calls (L.seen link.new) self.new }
+        ensures any { (T : Teller H) → HoldsBy (record { says = H.says; ends = H.ends }) T (L.seen link.old) self.old
+            → Ran (λ U. HoldsBy (record { says = H.says; ends = H.ends }) U (L.seen link.new) self.new) T R.answer self.old.calls (L.seen link.old) (L.seen link.new) (shows self.new)
+            (R.answered runner.old) (R.answered runner.new) (R.asked runner.old) (R.asked runner.new) }
         ensures steps { Steps (shows self.old) (shows self.new) (L.seen link.old) (L.seen link.new) left.old left.new }
         ensures moves { StepMoves now result (shows self.old) (shows self.new) (L.seen link.old) (L.seen link.new) left.old left.new }
         ensures leaves { StepLeaves result left.old left.new self.old.at self.new.at (L.seen link.old) (L.seen link.new) }
@@ -107,7 +109,9 @@ impl<B: Body, H: Hijack + Drop> Inside<B, H> {
         ensures holds { R.steady ≡ true → (T : Teller H)
             → TellsFrom T (R.answer runner.old) self.old.local self.old.peer self.new.ending.closing self.old.calls self.new.calls
             → HoldsBy (record { says = H.says; ends = H.ends }) T (L.seen link.old) self.old → HoldsBy (record { says = H.says; ends = H.ends }) T (L.seen link.new) self.new }
-        ensures any { (T : Teller H) → HoldsBy (record { says = H.says; ends = H.ends }) T (L.seen link.old) self.old → RunsBy (record { says = H.says; ends = H.ends }) T self.old.calls (L.seen link.new) self.new }
+        ensures any { (T : Teller H) → HoldsBy (record { says = H.says; ends = H.ends }) T (L.seen link.old) self.old
+            → Ran (λ U. HoldsBy (record { says = H.says; ends = H.ends }) U (L.seen link.new) self.new) T R.answer self.old.calls (L.seen link.old) (L.seen link.new) (shows self.new)
+            (R.answered runner.old) (R.answered runner.new) (R.asked runner.old) (R.asked runner.new) }
         ensures turns { Turns now result (shows self.old) (shows self.new) (L.seen link.old) (L.seen link.new) }
         ensures rightly { (T : Teller H) → HoldsBy (record { says = H.says; ends = H.ends }) T (L.seen link.old) self.old → TurnsRightly now (shows self.old) (shows self.new) (L.seen link.old) (L.seen link.new) }
         ensures counts { R.runs runner.new + self.old.calls ≡ R.runs runner.old + self.new.calls }

@@ -1,4 +1,6 @@
 mod AnswerLemmas
+mod AnsweredLemmas
+mod AskedLemmas
 pub mod CallerLemmas
 mod ChunkedLemmas
 mod CompareLemmas
@@ -13,6 +15,7 @@ mod LivesLemmas
 mod LivesRows
 mod RetellLemmas
 mod RunLemmas
+mod SentLemmas
 mod ShowsLemmas
 mod StandsLemmas
 mod TalkLemmas

@@ -1,4 +1,5 @@
 pub mod Answer
+pub mod Answered
 pub mod Asked
 pub mod Counts
 pub mod Ended

@@ -1,6 +1,9 @@
 use Rattle.talk_core.specs.Tail.{Voice}
+use Rattle.talk_core.specs.Teller.{Teller}
+use Rattle.conn_core.specs.Holds.{HoldsBy}
+use Rattle.conn_core.specs.Shown.{shows}
 use Rattle.conn_core.proofs.ConnLemmas.{turn_at}
-use Rattle.conn_core.proofs.RetellLemmas.{runs_of_same}
+use Rattle.conn_core.proofs.RanLemmas.{ran_of_same}
 use Rattle.conn_core.proofs.RightlyLemmas.{rightly_of_same}
 use Rattle.conn_core.proofs.conn.Conn.turn.Goals as goal
 
@@ -15,9 +18,10 @@ returns-clause-holds g c = λ S steady same h.
 pub returns-clause-any : goal.returns-clause-any
 returns-clause-any g c = λ T h.
     let V : Voice g.row.H.Denot = record { says = g.H.Hijack.says; ends = g.H.Hijack.ends } in
-    let runs = runs_of_same V T (g.L.Link.seen c.args.self.now.link) (g.L.Link.seen c.turn.new.link) c.args.self.now.inside.value
-    c.deref_mut-inside.result.now c.turn.new.self c.deref_mut-inside.ensures.value (c.turn.ensures.any T) h in
-    record { teller = runs.teller; before = runs.before; stands = runs.stands }
+    ran_of_same V T g.R.Runner.answer (g.L.Link.seen c.args.self.now.link) (g.L.Link.seen c.turn.new.link) c.args.self.now.inside.value
+    c.deref_mut-inside.result.now (shows c.turn.new.self) (λ (U : Teller g.row.H.Denot). HoldsBy V U (g.L.Link.seen c.turn.new.link) c.turn.new.self)
+    (g.R.Runner.answered c.args.runner.now) (g.R.Runner.answered c.turn.new.runner) (g.R.Runner.asked c.args.runner.now) (g.R.Runner.asked c.turn.new.runner)
+    c.deref_mut-inside.ensures.value (c.turn.ensures.any T) h
 
 pub returns-clause-rightly : goal.returns-clause-rightly
 returns-clause-rightly g c = λ T h.

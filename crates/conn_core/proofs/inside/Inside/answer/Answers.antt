@@ -1,16 +1,17 @@
-use Rattle.std.proofs.Common.{◌≡◌, ℕ, List, ◌+◌, ◌≤◌, ◌<◌, Bool, Option, Some, refl, sym, ap, subst, ◌∙◌, arith}
+use Rattle.std.proofs.Common.{◌≡◌, ℕ, List, [], ◌+◌, ◌≤◌, ◌<◌, Bool, Option, Some, refl, sym, ap, subst, ◌∙◌, arith}
 use Rattle.std.specs.Prelude.{if◌then◌else◌}
+use Rattle.rack_types.specs.declared.answer.Answer.{Answer}
+use Rattle.rack_types.specs.Body.{Content}
 use Rattle.rack_types.specs.Request.{Parts}
-use Rattle.rack_env.specs.Environment.{env_pairs}
-use Rattle.reply_framing.specs.Reply.{WholeReply}
 use Rattle.talk_core.specs.declared.ended.Why.TheVariants as why
-use Rattle.talk_core.specs.Teller.{Teller, reply_of, is_last}
-use Rattle.talk_core.proofs.CallerLemmas.{told_at, told_before, told_here, agrees_same}
+use Rattle.talk_core.specs.Teller.{Teller, AgreesBelow, is_last}
+use Rattle.talk_core.specs.Answered.{Answers, tell_from}
+use Rattle.talk_core.proofs.CallerLemmas.{from_before, from_here, appended_none}
 use Rattle.talk_core.specs.Tail.{Voice}
 use Rattle.conn_core.specs.declared.moments.Ending.{Ending}
 use Rattle.conn_core.specs.declared.place.At.{At}
 use Rattle.conn_core.specs.declared.place.At.TheVariants as at
-use Rattle.conn_core.specs.Holds.{kept}
+use Rattle.conn_core.specs.Holds.{kept, HoldsBy}
 use Rattle.conn_core.specs.Keeps.{Keeps, Run, Want, ending_run, drains_now, filled_then}
 use Rattle.conn_core.specs.Place.{state_at}
 use Rattle.conn_core.specs.Rests.{RestsAt, Begins}
@@ -20,6 +21,7 @@ use Rattle.conn_core.proofs.FilledLemmas.{shown_at}
 use Rattle.conn_core.proofs.BegunLemmas.{begins_run}
 use Rattle.conn_core.proofs.KeepsLemmas.{filled_is, run_keeps, want_keeps}
 use Rattle.conn_core.proofs.PlaceLemmas.{stands_place}
+use Rattle.conn_core.proofs.RanLemmas.{no_answers, ran_nothing, ran_once, ran_wants}
 use Rattle.conn_core.proofs.RetellLemmas.{retold}
 use Rattle.conn_core.proofs.ToldLemmas.{run_began}
 use Rattle.conn_core.proofs.inside.Inside.answer.Goals as goal
@@ -77,33 +79,40 @@ returns-in-Ok-clause-any g c = λ T s h.
     let p = c.args.self.now in
     let m : Ending = record p.ending { closing = c.closing-self.result } in
     let is = run_ending p.ending p.held p.calls c.drains-drains.result c.closing-self.result c.drains-drains.ensures c.closing-self.ensures in
-    let f : Parts → WholeReply g.row.H.Denot =
-    λ r. reply_of (g.R.Runner.answer c.args.runner.now) (env_pairs r p.peer p.local) r (is_last m.closing p.calls) in
-    let U : Teller g.row.H.Denot = told_at T p.calls f in
-    record {
-      teller = U;
-      before = told_before T p.calls f;
-      stands = stands_place c.hand_over-at.result c.put.new.at V U s p.peer _ (sym c.put.ensures)
-          (hands_hold V U s p.peer (with_run (kept p) c.prepare.new.intake (p.calls + 1) m) c.run-at.result c.hand_over-at.result c.in-Ok.ask
-          c.prepare.new.env.pairs (g.R.Runner.answer c.args.runner.now c.prepare.new.env.pairs c.prepare.new.env.input.bytes) c.is_last-last.result p.ring.items
-          c.hand_over-at.new.ring.items c.hand_over-at.new.held c.run-at.ensures.begins c.hand_over-at.ensures.hands refl
-          (asked_ring p.at p.intake p.held p.ring.items p.calls p.ending c.requires.at p.rests)
-          (answered V U s p.peer p.local (kept p) c.run-at.result c.prepare.new.intake
-          (p.calls + 1) m (g.R.Runner.answer c.args.runner.now) c.is_last-last.result c.in-Ok.ask c.prepare.new.env refl is
-          c.is_last-last.ensures c.in-Ok.ensures.asks c.run-at.ensures.begins (told_here T p.calls f)
-          (stands_place p.at at.Asked V U s p.peer (kept p) c.requires.at (retold V T U s p.peer p.at (kept p) (told_before T p.calls f) h))));
-    }
+    let env = c.prepare.new.env in
+    let x : Answer Content g.row.H.Denot = g.R.Runner.answer c.args.runner.now env.pairs env.input.bytes in
+    let answers : Answers g.row.H.Denot = λ k. x in
+    let U : Teller g.row.H.Denot = tell_from T p.calls answers p.local p.peer m.closing in
+    let before : AgreesBelow p.calls T U = from_before T p.calls answers p.local p.peer m.closing in
+    let first : p.calls ≤ p.calls = omega arith in
+    ran_once V T g.R.Runner.answer s p.peer p.local (kept p) _ env x c.run-at.result _
+    (g.R.Runner.answered c.args.runner.now) (g.R.Runner.answered c.run-at.new.runner) (g.R.Runner.asked c.args.runner.now) (g.R.Runner.asked c.run-at.new.runner)
+    refl refl refl (c.args.runner.now, env.pairs, env.input.bytes, refl) c.run-at.ensures.tells
+    (λ e. ap (λ (a : At g.row.B.Denot g.row.H.Denot). why_at a) c.put.ensures
+    ∙ ran_wants V c.run-at.result c.hand_over-at.result p.held p.ring.items c.hand_over-at.new.ring.items c.hand_over-at.new.held (c.run-at.ensures.tells.refused e)
+    c.hand_over-at.ensures.hands)
+    (λ now r fed is. (c.in-Ok.ensures.asks now r fed is).1)
+    (stands_place p.at at.Asked V T s p.peer (kept p) c.requires.at h)
+    (stands_place c.hand_over-at.result c.put.new.at V U s p.peer _ (sym c.put.ensures)
+    (hands_hold V U s p.peer (with_run (kept p) c.prepare.new.intake (p.calls + 1) m) c.run-at.result c.hand_over-at.result c.in-Ok.ask
+    env.pairs x c.is_last-last.result p.ring.items
+    c.hand_over-at.new.ring.items c.hand_over-at.new.held c.run-at.ensures.begins c.hand_over-at.ensures.hands refl
+    (asked_ring p.at p.intake p.held p.ring.items p.calls p.ending c.requires.at p.rests)
+    (answered V U s p.peer p.local (kept p) c.run-at.result c.prepare.new.intake
+    (p.calls + 1) m (λ ps input. x) c.is_last-last.result c.in-Ok.ask env refl is
+    c.is_last-last.ensures c.in-Ok.ensures.asks c.run-at.ensures.begins (λ r. from_here T p.calls answers p.local p.peer m.closing p.calls r first)
+    (stands_place p.at at.Asked V U s p.peer (kept p) c.requires.at (retold V T U s p.peer p.at (kept p) before h)))))
 
 pub returns-in-Err-clause-any : goal.returns-in-Err-clause-any
 returns-in-Err-clause-any g c = λ T s h.
     let V : Voice g.row.H.Denot = record { says = g.H.Hijack.says; ends = g.H.Hijack.ends } in
     let p = c.args.self.now in
-    record {
-      teller = T;
-      before = agrees_same T p.calls;
-      stands = stands_place (at.Over why.NoMemory) c.put-in-Err.new.at V T s p.peer _ (sym c.put-in-Err.ensures)
-          (unanswered V T s p.peer p.local (kept p) _ refl refl refl (stands_place p.at at.Asked V T s p.peer (kept p) c.requires.at h));
-    }
+    let U : Teller g.row.H.Denot = tell_from T p.calls no_answers p.local p.peer p.ending.closing in
+    ran_nothing T g.R.Runner.answer p.calls s s [] _ _ (g.R.Runner.answered c.args.runner.now) (g.R.Runner.asked c.args.runner.now) refl (appended_none s.given)
+    (stands_place (at.Over why.NoMemory) c.put-in-Err.new.at V U s p.peer _ (sym c.put-in-Err.ensures)
+    (unanswered V U s p.peer p.local (kept p) _ refl refl refl
+    (stands_place p.at at.Asked V U s p.peer (kept p) c.requires.at
+    (retold V T U s p.peer p.at (kept p) (from_before T p.calls no_answers p.local p.peer p.ending.closing) h))))
 
 pub returns-in-Ok-clause-runs : goal.returns-in-Ok-clause-runs
 returns-in-Ok-clause-runs g c =

@@ -1,9 +1,10 @@
-use Rattle.std.proofs.Common.{◌≡◌, ◌-◌, refl, ap, arith, inl, inr}
+use Rattle.std.proofs.Common.{◌≡◌, ◌-◌, [], refl, ap, arith, inl, inr}
 use Rattle.talk_core.specs.Tail.{Voice}
+use Rattle.talk_core.proofs.CallerLemmas.{appended_none}
 use Rattle.conn_core.specs.declared.place.At.{At}
 use Rattle.conn_core.specs.Shown.{fault_at}
 use Rattle.conn_core.proofs.MoveLemmas.{unrefused}
-use Rattle.conn_core.proofs.RetellLemmas.{no_run}
+use Rattle.conn_core.proofs.RanLemmas.{ran_none}
 use Rattle.conn_core.proofs.WorkLemmas.{over_falls}
 use Rattle.conn_core.proofs.inside.Inside.start.Goals as goal
 
@@ -22,7 +23,8 @@ returns-else-answer g c = record {
 pub returns-in-Refused-clause-any : goal.returns-in-Refused-clause-any
 returns-in-Refused-clause-any g c = λ T s h.
     let V : Voice g.row.H.Denot = record { says = g.H.Hijack.says; ends = g.H.Hijack.ends } in
-    no_run V T c.args.self.now.calls s c.refuse.new.self (c.refuse.ensures.holds T s h)
+    ran_none V T g.R.Runner.answer c.args.self.now.calls s s [] c.refuse.new.self (g.R.Runner.answered c.args.runner.now) (g.R.Runner.asked c.args.runner.now)
+    c.refuse.ensures.names.calls (appended_none s.given) (c.refuse.ensures.holds T s h)
 
 pub returns-then-answer-clause-takes : goal.returns-then-answer-clause-takes
 returns-then-answer-clause-takes g c =

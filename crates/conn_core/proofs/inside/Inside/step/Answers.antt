@@ -1,11 +1,12 @@
-use Rattle.std.proofs.Common.{◌≡◌, ℕ, true, false, List, length, refl, ap, sym, ◌∙◌, None, inl, inr}
+use Rattle.std.proofs.Common.{◌≡◌, ℕ, true, false, List, [], length, refl, ap, sym, ◌∙◌, arith, None, inl, inr}
 use Rattle.rack_outside.specs.declared.link.LinkRead.TheVariants as read
 use Rattle.talk_core.specs.Counts.{counted_by}
 use Rattle.talk_core.specs.Tail.{Voice}
+use Rattle.talk_core.proofs.CallerLemmas.{appended_none}
 use Rattle.conn_core.specs.declared.state.State.TheVariants as state
 use Rattle.conn_core.specs.Place.{state_at as place_as}
 use Rattle.conn_core.specs.Shown.{shows, why_at}
-use Rattle.conn_core.proofs.RetellLemmas.{no_run}
+use Rattle.conn_core.proofs.RanLemmas.{ran_none}
 use Rattle.conn_core.proofs.ShownLemmas.{counted_sum}
 use Rattle.conn_core.proofs.TurnLemmas.{unspent, nothing_read, stays, read_steps, start_steps, ready_unended}
 use Rattle.conn_core.proofs.WhyLemmas.{no_why_at}
@@ -67,17 +68,23 @@ returns-else-is_spent-2-clause-steps g c =
 pub returns-in-NotYet-clause-any : goal.returns-in-NotYet-clause-any
 returns-in-NotYet-clause-any g c = λ T h.
     let V : Voice g.row.H.Denot = record { says = g.H.Hijack.says; ends = g.H.Hijack.ends } in
-    no_run V T c.args.self.now.calls (g.L.Link.seen c.read.new.link) c.read.new.self (c.read.ensures.holds T h)
+    let reads = c.in-NotYet.ensures.reads in
+    ran_none V T g.R.Runner.answer c.args.self.now.calls (g.L.Link.seen c.args.link.now) (g.L.Link.seen c.read.new.link) reads.moved.came c.read.new.self
+    (g.R.Runner.answered c.args.runner.now) (g.R.Runner.asked c.args.runner.now) reads.calls reads.moved.given (c.read.ensures.holds T h)
 
 pub returns-in-Bytes-clause-any : goal.returns-in-Bytes-clause-any
 returns-in-Bytes-clause-any g c = λ T h.
     let V : Voice g.row.H.Denot = record { says = g.H.Hijack.says; ends = g.H.Hijack.ends } in
-    no_run V T c.args.self.now.calls (g.L.Link.seen c.read.new.link) c.read.new.self (c.read.ensures.holds T h)
+    let reads = c.in-Bytes.ensures.reads in
+    ran_none V T g.R.Runner.answer c.args.self.now.calls (g.L.Link.seen c.args.link.now) (g.L.Link.seen c.read.new.link) reads.moved.came c.read.new.self
+    (g.R.Runner.answered c.args.runner.now) (g.R.Runner.asked c.args.runner.now) reads.calls reads.moved.given (c.read.ensures.holds T h)
 
 pub returns-in-End-clause-any : goal.returns-in-End-clause-any
 returns-in-End-clause-any g c = λ T h.
     let V : Voice g.row.H.Denot = record { says = g.H.Hijack.says; ends = g.H.Hijack.ends } in
-    no_run V T c.args.self.now.calls (g.L.Link.seen c.read.new.link) c.read.new.self (c.read.ensures.holds T h)
+    let reads = c.read.ensures.reads in
+    ran_none V T g.R.Runner.answer c.args.self.now.calls (g.L.Link.seen c.args.link.now) (g.L.Link.seen c.read.new.link) reads.moved.came c.read.new.self
+    (g.R.Runner.answered c.args.runner.now) (g.R.Runner.asked c.args.runner.now) reads.calls reads.moved.given (c.read.ensures.holds T h)
 
 pub returns-then-is_spent-clause-moves : goal.returns-then-is_spent-clause-moves
 returns-then-is_spent-clause-moves g c =
@@ -150,9 +157,42 @@ returns-else-is_saying-clause-leaves g c =
 pub returns-then-is_saying-clause-any : goal.returns-then-is_saying-clause-any
 returns-then-is_saying-clause-any g c = λ T h.
     let V : Voice g.row.H.Denot = record { says = g.H.Hijack.says; ends = g.H.Hijack.ends } in
-    no_run V T c.args.self.now.calls (g.L.Link.seen c.speak.new.link) c.speak.new.self (c.speak.ensures.holds T h)
+    let steps = c.speak.ensures.steps in
+    let none : c.speak.new.self.calls ≡ c.args.self.now.calls = omega (arith, steps.calls, c.speak.ensures.runs) in
+    ran_none V T g.R.Runner.answer c.args.self.now.calls (g.L.Link.seen c.args.link.now) (g.L.Link.seen c.speak.new.link) steps.moved.came c.speak.new.self
+    (g.R.Runner.answered c.args.runner.now) (g.R.Runner.asked c.args.runner.now) none steps.moved.given (c.speak.ensures.holds T h)
 
 pub returns-in-Answering-clause-any : goal.returns-in-Answering-clause-any
 returns-in-Answering-clause-any g c = λ T h.
     let V : Voice g.row.H.Denot = record { says = g.H.Hijack.says; ends = g.H.Hijack.ends } in
-    no_run V T c.args.self.now.calls (g.L.Link.seen c.speak-in-Answering.new.link) c.speak-in-Answering.new.self (c.speak-in-Answering.ensures.holds T h)
+    let steps = c.speak-in-Answering.ensures.steps in
+    let none : c.speak-in-Answering.new.self.calls ≡ c.args.self.now.calls = omega (arith, steps.calls, c.speak-in-Answering.ensures.runs) in
+    ran_none V T g.R.Runner.answer c.args.self.now.calls (g.L.Link.seen c.args.link.now) (g.L.Link.seen c.speak-in-Answering.new.link) steps.moved.came c.speak-in-Answering.new.self
+    (g.R.Runner.answered c.args.runner.now) (g.R.Runner.asked c.args.runner.now) none steps.moved.given (c.speak-in-Answering.ensures.holds T h)
+
+pub returns-then-is_spent-clause-any : goal.returns-then-is_spent-clause-any
+returns-then-is_spent-clause-any g c = λ T h.
+    let V : Voice g.row.H.Denot = record { says = g.H.Hijack.says; ends = g.H.Hijack.ends } in
+    ran_none V T g.R.Runner.answer c.args.self.now.calls (g.L.Link.seen c.args.link.now) (g.L.Link.seen c.args.link.now) [] c.args.self.now
+    (g.R.Runner.answered c.args.runner.now) (g.R.Runner.asked c.args.runner.now) refl (appended_none (g.L.Link.seen c.args.link.now).given) h
+
+pub returns-then-is_spent-2-clause-any : goal.returns-then-is_spent-2-clause-any
+returns-then-is_spent-2-clause-any g c = λ T h.
+    let V : Voice g.row.H.Denot = record { says = g.H.Hijack.says; ends = g.H.Hijack.ends } in
+    ran_none V T g.R.Runner.answer c.args.self.now.calls (g.L.Link.seen c.args.link.now) (g.L.Link.seen c.args.link.now) [] c.args.self.now
+    (g.R.Runner.answered c.args.runner.now) (g.R.Runner.asked c.args.runner.now) refl (appended_none (g.L.Link.seen c.args.link.now).given) h
+
+pub returns-in-Over-clause-any : goal.returns-in-Over-clause-any
+returns-in-Over-clause-any g c = λ T h.
+    let V : Voice g.row.H.Denot = record { says = g.H.Hijack.says; ends = g.H.Hijack.ends } in
+    ran_none V T g.R.Runner.answer c.args.self.now.calls (g.L.Link.seen c.args.link.now) (g.L.Link.seen c.args.link.now) [] c.args.self.now
+    (g.R.Runner.answered c.args.runner.now) (g.R.Runner.asked c.args.runner.now) refl (appended_none (g.L.Link.seen c.args.link.now).given) h
+
+pub returns-else-is_saying-clause-any : goal.returns-else-is_saying-clause-any
+returns-else-is_saying-clause-any g c = λ T h.
+    let V : Voice g.row.H.Denot = record { says = g.H.Hijack.says; ends = g.H.Hijack.ends } in
+    ran_none V T g.R.Runner.answer c.args.self.now.calls (g.L.Link.seen c.args.link.now) (g.L.Link.seen c.args.link.now) [] c.args.self.now
+    (g.R.Runner.answered c.args.runner.now) (g.R.Runner.asked c.args.runner.now) refl (appended_none (g.L.Link.seen c.args.link.now).given) h
+
+pub returns-else-is_spent-2-clause-any : goal.returns-else-is_spent-2-clause-any
+returns-else-is_spent-2-clause-any g c = λ T h. c.start.ensures.any T (g.L.Link.seen c.args.link.now) h

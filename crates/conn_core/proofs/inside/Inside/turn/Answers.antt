@@ -6,8 +6,8 @@ use Rattle.conn_core.specs.Shown.{shows, replied_at}
 use Rattle.conn_core.proofs.MoveLemmas.{owes_rightly, hearing_owes}
 use Rattle.conn_core.proofs.MovingLemmas.{full, start_makes, moving_start, moving_step, moving_end}
 use Rattle.conn_core.proofs.RightlyLemmas.{rightly_start, rightly_step, rightly_end}
-use Rattle.conn_core.proofs.StandsLemmas.{begins_rightly, runs_rightly}
-use Rattle.conn_core.proofs.RetellLemmas.{more_runs}
+use Rattle.conn_core.proofs.StandsLemmas.{begins_rightly}
+use Rattle.conn_core.proofs.RanLemmas.{ran_step, ran_rightly}
 use Rattle.conn_core.proofs.TurnLemmas.{turning_start, turning_step, turning_end, step_stops, risen, ready_unended, tells_step, tells_before}
 use Rattle.conn_core.proofs.inside.Inside.turn.Goals as goal
 
@@ -25,7 +25,8 @@ loop-self-init g c =
       rightly = λ T h.
           rightly_start c.args.now (shows c.args.self.now) (shows c.start.new.self) (g.L.Link.seen c.args.link.now) c.start.new.left
           (begins_rightly (record { says = g.H.Hijack.says; ends = g.H.Hijack.ends }) T (g.L.Link.seen c.args.link.now) c.args.self.now h) made
-          (runs_rightly (record { says = g.H.Hijack.says; ends = g.H.Hijack.ends }) T c.args.self.now.calls (g.L.Link.seen c.args.link.now) c.start.new.self
+          (ran_rightly (record { says = g.H.Hijack.says; ends = g.H.Hijack.ends }) T g.R.Runner.answer c.args.self.now.calls (g.L.Link.seen c.args.link.now) (g.L.Link.seen c.args.link.now) c.start.new.self
+          (g.R.Runner.answered c.args.runner.now) (g.R.Runner.answered c.start.new.runner) (g.R.Runner.asked c.args.runner.now) (g.R.Runner.asked c.start.new.runner)
           (c.start.ensures.any T (g.L.Link.seen c.args.link.now) h));
       counts = c.start.ensures.counts ∙ ap (λ (l : Left). g.R.Runner.runs c.args.runner.now + l.runs) c.new-left.ensures;
       steady = c.start.ensures.steady;
@@ -54,8 +55,11 @@ loop-self-preserved g c =
           (i.holds e T (tells_before T (g.R.Runner.answer c.args.runner.now) c.args.self.now.local c.args.self.now.peer c.args.self.now.calls
           (shows c.loop-self.self) (shows c.step.new.self) c.step.ensures.steps.drains more tells) h);
       any = λ T h.
-          more_runs (record { says = g.H.Hijack.says; ends = g.H.Hijack.ends }) T c.args.self.now.calls c.loop-self.self.calls (g.L.Link.seen c.loop-self.link) (g.L.Link.seen c.step.new.link) c.loop-self.self c.step.new.self
-          grew (i.any T h) (λ U u. c.step.ensures.any U u);
+          ran_step (record { says = g.H.Hijack.says; ends = g.H.Hijack.ends }) T g.R.Runner.answer c.args.self.now.calls (g.L.Link.seen c.args.link.now)
+          (g.L.Link.seen c.loop-self.link) (g.L.Link.seen c.step.new.link) c.loop-self.self c.step.new.self
+          (g.R.Runner.answered c.args.runner.now) (g.R.Runner.answered c.loop-self.runner) (g.R.Runner.answered c.step.new.runner)
+          (g.R.Runner.asked c.args.runner.now) (g.R.Runner.asked c.loop-self.runner) (g.R.Runner.asked c.step.new.runner)
+          c.args.now c.step.result c.loop-self.left c.step.new.left grew c.step.ensures.steps c.step.ensures.moves (i.any T h) (λ U u. c.step.ensures.any U u);
       turning = turning_step (shows c.args.self.now) (shows c.loop-self.self) (shows c.step.new.self) (g.L.Link.seen c.args.link.now)
           (g.L.Link.seen c.loop-self.link) (g.L.Link.seen c.step.new.link) c.loop-self.left c.step.new.left late i.turning c.step.ensures.steps;
       moving = moving_step c.args.now (left_at (shows c.args.self.now) (g.L.Link.seen c.args.link.now) full false)
@@ -65,9 +69,13 @@ loop-self-preserved g c =
           rightly_step c.args.now (left_at (shows c.args.self.now) (g.L.Link.seen c.args.link.now) full false)
           (left_at (shows c.loop-self.self) (g.L.Link.seen c.loop-self.link) c.loop-self.left false)
           (left_at (shows c.step.new.self) (g.L.Link.seen c.step.new.link) c.step.new.left false) (i.rightly T h) c.in-GoesOn.ensures.moves
-          (runs_rightly (record { says = g.H.Hijack.says; ends = g.H.Hijack.ends }) T c.args.self.now.calls (g.L.Link.seen c.step.new.link) c.step.new.self
-          (more_runs (record { says = g.H.Hijack.says; ends = g.H.Hijack.ends }) T c.args.self.now.calls c.loop-self.self.calls (g.L.Link.seen c.loop-self.link) (g.L.Link.seen c.step.new.link) c.loop-self.self c.step.new.self
-          grew (i.any T h) (λ U u. c.step.ensures.any U u)));
+          (ran_rightly (record { says = g.H.Hijack.says; ends = g.H.Hijack.ends }) T g.R.Runner.answer c.args.self.now.calls (g.L.Link.seen c.args.link.now) (g.L.Link.seen c.step.new.link) c.step.new.self
+          (g.R.Runner.answered c.args.runner.now) (g.R.Runner.answered c.step.new.runner) (g.R.Runner.asked c.args.runner.now) (g.R.Runner.asked c.step.new.runner)
+          (ran_step (record { says = g.H.Hijack.says; ends = g.H.Hijack.ends }) T g.R.Runner.answer c.args.self.now.calls (g.L.Link.seen c.args.link.now)
+          (g.L.Link.seen c.loop-self.link) (g.L.Link.seen c.step.new.link) c.loop-self.self c.step.new.self
+          (g.R.Runner.answered c.args.runner.now) (g.R.Runner.answered c.loop-self.runner) (g.R.Runner.answered c.step.new.runner)
+          (g.R.Runner.asked c.args.runner.now) (g.R.Runner.asked c.loop-self.runner) (g.R.Runner.asked c.step.new.runner)
+          c.args.now c.step.result c.loop-self.left c.step.new.left grew c.step.ensures.steps c.step.ensures.moves (i.any T h) (λ U u. c.step.ensures.any U u)));
       counts = counts;
       steady = λ e ps input. c.step.ensures.steady e ps input ∙ i.steady e ps input;
     }
@@ -116,9 +124,13 @@ returns-in-Waits-clause-rightly g c = λ T h.
     ) in
     rightly_end c.args.now c.step.result (shows c.args.self.now) (shows c.loop-self.self) (shows c.step.new.self) (g.L.Link.seen c.args.link.now)
     (g.L.Link.seen c.loop-self.link) (g.L.Link.seen c.step.new.link) l k c.in-Waits.is few (i.rightly T h) c.step.ensures.moves
-    (runs_rightly V T c.args.self.now.calls (g.L.Link.seen c.step.new.link) c.step.new.self
-    (more_runs V T c.args.self.now.calls c.loop-self.self.calls (g.L.Link.seen c.loop-self.link) (g.L.Link.seen c.step.new.link) c.loop-self.self c.step.new.self
-    grew (i.any T h) (λ U u. c.step.ensures.any U u)))
+    (ran_rightly V T g.R.Runner.answer c.args.self.now.calls (g.L.Link.seen c.args.link.now) (g.L.Link.seen c.step.new.link) c.step.new.self
+    (g.R.Runner.answered c.args.runner.now) (g.R.Runner.answered c.step.new.runner) (g.R.Runner.asked c.args.runner.now) (g.R.Runner.asked c.step.new.runner)
+    (ran_step V T g.R.Runner.answer c.args.self.now.calls (g.L.Link.seen c.args.link.now)
+    (g.L.Link.seen c.loop-self.link) (g.L.Link.seen c.step.new.link) c.loop-self.self c.step.new.self
+    (g.R.Runner.answered c.args.runner.now) (g.R.Runner.answered c.loop-self.runner) (g.R.Runner.answered c.step.new.runner)
+    (g.R.Runner.asked c.args.runner.now) (g.R.Runner.asked c.loop-self.runner) (g.R.Runner.asked c.step.new.runner)
+    c.args.now c.step.result c.loop-self.left c.step.new.left grew c.step.ensures.steps c.step.ensures.moves (i.any T h) (λ U u. c.step.ensures.any U u)))
 
 pub returns-in-Waits-clause-counts : goal.returns-in-Waits-clause-counts
 returns-in-Waits-clause-counts g c =
@@ -133,5 +145,8 @@ returns-in-Waits-clause-any g c = λ T h.
     let V : Voice g.row.H.Denot = record { says = g.H.Hijack.says; ends = g.H.Hijack.ends } in
     let i = c.loop-self.invariant in
     let grew : c.args.self.now.calls ≤ c.loop-self.self.calls = omega (arith, i.turning.calls, i.turning.few) in
-    more_runs V T c.args.self.now.calls c.loop-self.self.calls (g.L.Link.seen c.loop-self.link) (g.L.Link.seen c.step.new.link) c.loop-self.self c.step.new.self
-    grew (i.any T h) (λ U u. c.step.ensures.any U u)
+    ran_step V T g.R.Runner.answer c.args.self.now.calls (g.L.Link.seen c.args.link.now)
+    (g.L.Link.seen c.loop-self.link) (g.L.Link.seen c.step.new.link) c.loop-self.self c.step.new.self
+    (g.R.Runner.answered c.args.runner.now) (g.R.Runner.answered c.loop-self.runner) (g.R.Runner.answered c.step.new.runner)
+    (g.R.Runner.asked c.args.runner.now) (g.R.Runner.asked c.loop-self.runner) (g.R.Runner.asked c.step.new.runner)
+    c.args.now c.step.result c.loop-self.left c.step.new.left grew c.step.ensures.steps c.step.ensures.moves (i.any T h) (λ U u. c.step.ensures.any U u)

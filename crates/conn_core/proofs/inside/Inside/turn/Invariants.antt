@@ -3,7 +3,7 @@ use Rattle.rack_types.specs.Env.{Pairs}
 use Rattle.talk_core.specs.Teller.{Teller}
 use Rattle.conn_core.specs.Holds.{HoldsBy}
 use Rattle.conn_core.specs.Inner.{TellsFrom, left_at, work}
-use Rattle.conn_core.specs.Runs.{RunsBy}
+use Rattle.conn_core.specs.Ran.{Ran}
 use Rattle.conn_core.specs.Shown.{shows}
 use Rattle.conn_core.proofs.MovingLemmas.{full, Moving}
 use Rattle.conn_core.proofs.RightlyLemmas.{MovingRightly}
@@ -17,7 +17,9 @@ invariant-loop-self g l = record {
       → HoldsBy (record { says = g.H.Hijack.says; ends = g.H.Hijack.ends }) T (g.L.Link.seen l.fn.link) l.fn.self
       → HoldsBy (record { says = g.H.Hijack.says; ends = g.H.Hijack.ends }) T (g.L.Link.seen l.link) l.self;
   any : (T : Teller g.row.H.Denot) → HoldsBy (record { says = g.H.Hijack.says; ends = g.H.Hijack.ends }) T (g.L.Link.seen l.fn.link) l.fn.self
-      → RunsBy (record { says = g.H.Hijack.says; ends = g.H.Hijack.ends }) T l.fn.self.calls (g.L.Link.seen l.link) l.self;
+      → Ran (λ (U : Teller g.row.H.Denot). HoldsBy (record { says = g.H.Hijack.says; ends = g.H.Hijack.ends }) U (g.L.Link.seen l.link) l.self) T g.R.Runner.answer
+      l.fn.self.calls (g.L.Link.seen l.fn.link) (g.L.Link.seen l.link) (shows l.self)
+      (g.R.Runner.answered l.fn.runner) (g.R.Runner.answered l.runner) (g.R.Runner.asked l.fn.runner) (g.R.Runner.asked l.runner);
   turning : Turning (shows l.fn.self) (shows l.self) (g.L.Link.seen l.fn.link) (g.L.Link.seen l.link) l.left;
   moving : Moving l.fn.now (left_at (shows l.fn.self) (g.L.Link.seen l.fn.link) full false) (left_at (shows l.self) (g.L.Link.seen l.link) l.left false);
   rightly : (T : Teller g.row.H.Denot) → HoldsBy (record { says = g.H.Hijack.says; ends = g.H.Hijack.ends }) T (g.L.Link.seen l.fn.link) l.fn.self
