@@ -30,7 +30,8 @@ pub use Rattle.conn_core.proofs.WithinLemmas.{feed_moments, turn_moments, flush_
 pub use Rattle.conn_core.proofs.TransferLemmas.{feed_transfer, turn_transfer, flush_transfer, tick_transfer, opened_transfer, placed_transfer, drained_transfer, transfer_unmarked, transfer_marked, transfer_within}
 pub use Rattle.conn_core.proofs.LevelLemmas.{transfer_told, told_more, feed_told, turn_told, flush_told, tick_told, ended_told, drained_told, placed_told, no_drain}
 pub use Rattle.conn_core.proofs.StoppingLemmas.{feed_rose, flush_writes, flush_rose, turn_leaves, flush_leaves}
-pub use Rattle.conn_core.proofs.AnyLemmas.{SameGround, any_kept, any_opened, any_fed, any_flushed, any_ticked, any_drained, any_ended, any_lent, any_placed, any_turned, AskedAt, any_asked, any_finished, turn_sent}
+pub use Rattle.conn_core.proofs.AnyLemmas.{SameGround, any_kept, any_opened, any_fed, any_flushed, any_ticked, any_drained, any_ended, any_lent, any_placed, any_turned}
+pub use Rattle.conn_core.proofs.AnsweredLemmas.{any_asked, asked_are, any_finished, turn_sent}
 
 -- what no call leaves
 pub moved_none : (o : Shown) (s : Seen) → Moved o o s s 0 0

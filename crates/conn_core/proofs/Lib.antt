@@ -37,4 +37,5 @@ pub mod TransferLemmas
 pub mod StoppingLemmas
 pub mod LevelLemmas
 pub mod AnyLemmas
+pub mod AnsweredLemmas
 pub mod CallerLemmas

@@ -1,7 +1,7 @@
 -- What the runs of any runner leave: none, one, and one behind the other.
-use Rattle.std.proofs.Common.{◌≡◌, ◌≢◌, ℕ, zero, suc, ◌+◌, ◌<◌, ◌≤◌, Bool, true, false, nat_lt, List, [], ◌∷◌, ◌++◌, length, refl, sym, ap, subst, ◌∙◌, append_assoc, arith, length-append, Option, None, Some, ◌⊎◌, inl, inr, ⊎_elim}
+use Rattle.std.proofs.Common.{◌≡◌, ℕ, ◌+◌, ◌<◌, ◌≤◌, Bool, true, false, nat_lt, List, [], ◌∷◌, ◌++◌, length, refl, sym, ap, subst, ◌∙◌, append_assoc, arith, length-append, Option, Some, ◌⊎◌, inl, inr, ⊎_elim}
 use Rattle.std.proofs.lemmas.Bool.Decides.{nat_tests}
-use Rattle.std.proofs.lemmas.List.{append-nil, nil_from_length}
+use Rattle.std.proofs.lemmas.List.{append-nil}
 use Rattle.rack_types.specs.declared.answer.Answer.{Answer}
 use Rattle.rack_types.specs.declared.answer.Answer.TheVariants.{Raised}
 use Rattle.rack_types.specs.declared.body.Body.{Ghosts}
@@ -19,9 +19,8 @@ use Rattle.talk_core.specs.declared.ended.Why.{Why}
 use Rattle.talk_core.specs.declared.ended.Why.TheVariants as why
 use Rattle.talk_core.specs.Answered.{Answers, tell_by, tell_from, answers_to, asked_as, asked_for, HasAsked, SentUpTo}
 use Rattle.talk_core.specs.Tail.{Voice}
-use Rattle.talk_core.specs.Talk.{replies_to}
 use Rattle.talk_core.specs.Teller.{Stack, Teller, AgreesBelow, is_last}
-use Rattle.talk_core.proofs.CallerLemmas.{joined, joined_below, joined_from, from_before, from_here, from_agrees, tell_same, answers_joined, asked_append, appended_none, appended_twice, has_more, has_next, replies_agree, keep_agrees, agrees_less, silent_sent, silent_asks}
+use Rattle.talk_core.proofs.CallerLemmas.{joined, joined_below, joined_from, from_before, from_here, from_agrees, tell_same, answers_joined, asked_append, appended_none, appended_twice, has_more, has_next, replies_agree, keep_agrees, silent_sent, silent_asks}
 use Rattle.conn_core.specs.declared.inside.Inside.{Inside}
 use Rattle.conn_core.specs.declared.place.At.{At}
 use Rattle.conn_core.specs.declared.place.At.TheVariants as at

@@ -7,11 +7,12 @@ use Rattle.rack_types.specs.Body.{Content}
 use Rattle.rack_types.specs.Env.{Pairs}
 use Rattle.rack_types.specs.Request.{Parts}
 use Rattle.rack_types.specs.Runner.{Asked}
-use Rattle.rack_outside.specs.Link.{Seen}
+use Rattle.rack_outside.specs.Link.{Seen, Tells}
 use Rattle.rack_outside.specs.Told.{appended}
 use Rattle.talk_core.specs.declared.ended.Why.{Why}
 use Rattle.talk_core.specs.declared.ended.Why.TheVariants as why
 use Rattle.talk_core.specs.Answered.{Answers, tell_by, tell_from, answers_to, asked_for, HasAsked, SentUpTo}
+use Rattle.talk_core.specs.Asked.{IsAsked}
 use Rattle.talk_core.specs.Ended.{AreLives}
 use Rattle.talk_core.specs.Tail.{Voice}
 use Rattle.talk_core.specs.Teller.{Stack, Teller}
@@ -56,3 +57,11 @@ pub record HoldsAny {L B H : Type 0} {g : Ghosts B} (seen : L → Seen) (V : Voi
   pub fit : (k : ℕ) → k < (shown c).calls → IsFit (answers k)
   pub lives_are : AreLives (shown c).lives
   pub stands : HoldsWith seen V (tell_by answers (shown c).local (shown c).peer (shown c).ending.closing) c
+
+-- the requests that were asked on a connection, counted by what they say themselves, as far as its link tells what it gave
+pub record AskedAt (s : Seen) (c : Shown) : Type 0 where
+  pub given : List ℕ
+  pub tells : Tells s.given given
+  pub asked : List Parts
+  pub rest : List ℕ
+  pub asks : IsAsked c.ending.closing given c.calls asked rest

@@ -201,8 +201,11 @@ impl<L: Link, B: Body, H: Hijack + Drop> Conn<L, B, H> {
     /// nothing is owed, or where the connection is over, as where memory is refused.
     ///
     /// Whatever the runner answers, each run belongs to the next request. Where it is steady, the connection goes on
-    /// standing for its talk over the runner's answers. Where the connection held before and its link tells what
-    /// it gave, the bytes held at each run are all that stand behind its request then.
+    /// standing for its talk over the runner's answers. Where it isn't, or may not be, it does so over the answers that
+    /// came, one to each request by its number; and what the runner tells grew by these answers, in order, and by the
+    /// environments of the requests that were run. Only the last run may have been refused: then no byte of a reply to
+    /// it was sent, and the connection is over for want of memory. Where the connection held before and its link tells
+    /// what it gave, the bytes held at each run are all that stand behind its request then.
     pub fn turn<R: Runner<B, H>>(&mut self, runner: &mut R, now: u64) -> Next
         requires ready { (shown self.old).state ≡ State.Ready }
         requires room { R.runs runner.old ≤ 2 ^ 64 - 11 }
