@@ -198,15 +198,16 @@ module _ {L B H : Type 0} {g : Ghosts B} (seen : L → Seen) (V : Voice H) (IsFi
         stands = subst (λ (U : Teller H). HoldsWith seen V U d) is (keeps T h.stands);
       }
 
-  -- and a turn, of any runner all of whose answers are such: behind those that came before there are those that it gave
+  -- and a turn, of any runner all of whose answers are such, those that it gave and those that it foretells: behind those
+  -- that came before there are those that it gave
   pub any_turned : {R : Type 0} (c d : Conn L B H g) (now : ℕ) (result : Next) (answer : R → Stack H)
       (answered answered' : Option (List (Answer Content H))) (asked asked' : Option (List (Asked × Bool)))
       → Turns now result (reaching now (shown c)) (shown d) (seen (link_of c)) (seen (link_of d)) → (h : HoldsAny seen V IsFit c)
       → (r : Ran (λ (U : Teller H). HoldsWith seen V U d) (tell_by h.answers (shown c).local (shown c).peer (shown c).ending.closing) answer (shown c).calls
       (seen (link_of c)) (seen (link_of d)) (shown d) answered answered' asked asked')
-      → ((x : R) (ps : Pairs) (input : List ℕ) → IsFit (answer x ps input))
+      → ((k : ℕ) → (shown c).calls ≤ k → k < (shown c).calls + r.good → IsFit (r.answers k)) → ((x : R) (ps : Pairs) (input : List ℕ) → IsFit (answer x ps input))
       → (m : HoldsAny seen V IsFit d) × ((k : ℕ) → k < (shown c).calls → m.answers k ≡ h.answers k) × ((k : ℕ) → (shown c).calls ≤ k → m.answers k ≡ r.answers k)
-  any_turned {R} c d now result answer answered answered' asked asked' t h r fit = (
+  any_turned {R} c d now result answer answered answered' asked asked' t h r given fit = (
     record {
       answers = J;
       fit = fits;
@@ -252,5 +253,5 @@ module _ {L B H : Type 0} {g : Ghosts B} (seen : L → Seen) (V : Voice H) (IsFi
               let below : k < first = grind (arith, nat_tests, is) in subst IsFit (sym (joined_below first a r.answers k below)) (h.fit k below)
           go false is =
               let behind : first ≤ k = grind (arith, nat_tests, is) in
-              let gives = r.gives k behind lt in
-              subst IsFit (sym (joined_from first a r.answers k behind)) (subst IsFit (sym gives.3) (fit gives.0 gives.1 gives.2))
+              subst IsFit (sym (joined_from first a r.answers k behind))
+              (⊎_elim (λ few. given k behind few) (λ gives. subst IsFit (sym gives.3) (fit gives.0 gives.1 gives.2)) (r.gives k behind lt))

@@ -9,7 +9,7 @@ use Rattle.rack_types.specs.declared.peer.Local.{Local}
 use Rattle.rack_types.specs.Body.{Content}
 use Rattle.rack_types.specs.Env.{Environment}
 use Rattle.rack_types.specs.Request.{Parts}
-use Rattle.rack_types.specs.Runner.{Asked}
+use Rattle.rack_types.specs.Runner.{Asked, BecomesBy, Becomes}
 use Rattle.rack_env.specs.Environment.{environment}
 use Rattle.rack_outside.specs.Link.{Seen}
 use Rattle.rack_outside.specs.Told.{appended}
@@ -79,14 +79,14 @@ ran_none {R} {B} {H} {g} V T answer first s s' came q answered asked same more h
 pub ran_once : {R B H : Type 0} (V : Voice H) (T : Teller H) (answer : R → Stack H) (s : Seen) (peer : List ℕ) (local : Local) (c : Kept) (d : Shown)
     (env : Environment) (x : Answer Content H) (b : At B H) (Stands : Teller H → Type 0)
     (answered answered' : Option (List (Answer Content H))) (asked asked' : Option (List (Asked × Bool)))
-    → d.calls ≡ c.calls + 1 → d.local ≡ local → d.peer ≡ peer → Gives answer x
-    → (tells : TellsRun x (env.pairs, env.input.bytes) answered answered' asked asked' b) → (tells.well ≡ false → d.why ≡ Some why.NoMemory)
+    → d.calls ≡ c.calls + 1 → d.local ≡ local → d.peer ≡ peer
+    → (tells : TellsRun x (env.pairs, env.input.bytes) answered answered' asked asked' b) → (tells.well ≡ false → Gives answer x) → (tells.well ≡ false → d.why ≡ Some why.NoMemory)
     → ((now : List ℕ) (r : Parts) → Fed c.intake now → IsRequest now r → env ≡ environment r peer local)
     → StandsAt {B = B} V T s peer at.Asked c
     → Stands (tell_from T c.calls (λ (k : ℕ). x) d.local d.peer d.ending.closing)
     → Ran Stands T answer c.calls s s d answered answered' asked asked'
-ran_once {R} {B} {H} V T answer s peer local c d env x b Stands answered answered' asked asked' count local_is peer_is gives tells refused is h stands =
-    go tells.well tells.answered_is tells.asked_is refused
+ran_once {R} {B} {H} V T answer s peer local c d env x b Stands answered answered' asked asked' count local_is peer_is tells gives refused is h stands =
+    go tells.well tells.answered_is tells.asked_is gives refused
   where
     answers : Answers H
     answers = λ k. x
@@ -132,15 +132,15 @@ ran_once {R} {B} {H} V T answer s peer local c d env x b Stands answered answere
         }
 
     go : (well : Bool) → answered' ≡ appended answered (answer_of well x) → asked' ≡ appended asked (((env.pairs, env.input.bytes), well) ∷ [])
-        → (well ≡ false → d.why ≡ Some why.NoMemory) → Ran Stands T answer c.calls s s d answered answered' asked asked'
-    go true answered_is asked_is refused =
+        → (well ≡ false → Gives answer x) → (well ≡ false → d.why ≡ Some why.NoMemory) → Ran Stands T answer c.calls s s d answered answered' asked asked'
+    go true answered_is asked_is gives refused =
         let all : c.calls + 1 ≡ d.calls = omega (arith, count) in
         record {
           answers = answers;
           good = 1;
           good_is = inl all;
           stands = stands;
-          gives = λ k from lt. gives;
+          gives = λ k from lt. let few : k < c.calls + 1 = omega (arith, lt, count) in inl few;
           answered_is = answered_is;
           unsaid = λ lt. absurd (omega (arith, lt, count));
           asks = λ requests has.
@@ -150,7 +150,7 @@ ran_once {R} {B} {H} V T answer s peer local c d env x b Stands answered answere
                 asked_is = asked_is ∙ ap (λ (q : Asked). appended asked ((q, true) ∷ [])) asking;
               };
         }
-    go false answered_is asked_is refused =
+    go false answered_is asked_is gives refused =
         let less : c.calls + 0 + 1 ≡ d.calls = omega (arith, count) in
         let none : c.calls ≡ c.calls + 0 = omega arith in
         record {
@@ -158,7 +158,7 @@ ran_once {R} {B} {H} V T answer s peer local c d env x b Stands answered answere
           good = 0;
           good_is = inr (less, refused refl);
           stands = stands;
-          gives = λ k from lt. gives;
+          gives = λ k from lt. inr (gives refl);
           answered_is = answered_is;
           unsaid = λ lt. subst (λ (n : ℕ). SentUpTo U s n) none unsent;
           asks = λ requests has.
@@ -263,16 +263,22 @@ ran_then {R} {B} {H} {g} V T answer first s t u p q a b c i j k few more local_i
     agrees : AgreesBelow q.calls W TJ
     agrees = from_agrees T first J q.local q.peer q.ending.closing W q.calls before tells
 
-    gives : (n : ℕ) → first ≤ n → n < q.calls → Gives answer (J n)
+    IsGiven : ℕ → Answer Content H → Type 0
+    IsGiven n v = (n < first + (x.good + y.good)) ⊎ Gives answer v
+
+    gives : (n : ℕ) → first ≤ n → n < q.calls → IsGiven n (J n)
     gives n from lt = go (nat_lt n p.calls) refl
       where
-        go : (z : Bool) → nat_lt n p.calls ≡ z → Gives answer (J n)
+        go : (z : Bool) → nat_lt n p.calls ≡ z → IsGiven n (J n)
         go true is =
             let below : n < p.calls = grind (arith, nat_tests, is) in
-            subst (λ (v : Answer Content H). Gives answer v) (sym (joined_below p.calls x.answers y.answers n below)) (x.gives n from below)
+            subst (IsGiven n) (sym (joined_below p.calls x.answers y.answers n below))
+            (⊎_elim (λ few. let z : n < first + (x.good + y.good) = omega (arith, few) in inl z) (λ given. inr given) (x.gives n from below))
         go false is =
             let behind : p.calls ≤ n = grind (arith, nat_tests, is) in
-            subst (λ (v : Answer Content H). Gives answer v) (sym (joined_from p.calls x.answers y.answers n behind)) (y.gives n behind lt)
+            subst (IsGiven n) (sym (joined_from p.calls x.answers y.answers n behind))
+            (⊎_elim (λ few. ⊎_elim (λ e. let z : n < first + (x.good + y.good) = omega (arith, few, e) in inl z) (λ e. absurd (omega (arith, few, behind, e.2))) cases)
+            (λ given. inr given) (y.gives n behind lt))
 
     lists : answers_to J first (x.good + y.good) ≡ answers_to x.answers first x.good ++ answers_to y.answers p.calls y.good
     lists =
@@ -386,3 +392,19 @@ pub ran_wants : {B H : Type 0} (V : Voice H) (a b : At B H) (held before ring le
     → why_at b ≡ Some why.NoMemory
 ran_wants {B} {H} V a b held before ring left e hands =
     ap (λ (x : At B H). why_at x) (subst (λ (x : At B H). HandsOn V x held before b ring left) e hands).0
+
+-- no run makes of a runner itself, and one what it says
+pub becomes_none : {R : Type 0} (becomes : R → R → Type 0) (r : R) → Becomes becomes r r
+becomes_none {R} becomes r = ([], refl)
+
+pub becomes_once : {R : Type 0} (becomes : R → R → Type 0) (r s : R) → becomes r s → Becomes becomes r s
+becomes_once {R} becomes r s h = (s ∷ [], (h, refl))
+
+becomes_on : {R : Type 0} (becomes : R → R → Type 0) (between more : List R) (a b c : R) → BecomesBy becomes between a b → BecomesBy becomes more b c
+    → BecomesBy becomes (between ++ more) a c
+becomes_on {R} becomes [] more a b c h k = subst (λ (x : R). BecomesBy becomes more x c) h k
+becomes_on {R} becomes (next ∷ rest) more a b c h k = (h.0, becomes_on becomes rest more next b c h.1 k)
+
+-- some runs, and then more
+pub becomes_then : {R : Type 0} (becomes : R → R → Type 0) (a b c : R) → Becomes becomes a b → Becomes becomes b c → Becomes becomes a c
+becomes_then {R} becomes a b c h k = (h.0 ++ k.0, becomes_on becomes h.0 k.0 a b c h.1 k.1)

@@ -20,7 +20,7 @@ use Rattle.conn_core.specs.declared.conn.Conn.{Conn}
 use Rattle.conn_core.specs.Holds.{HoldsWith}
 use Rattle.conn_core.specs.Shown.{Shown, shown}
 
--- a runner gives this answer: as it is at some moment, to some environment
+-- a runner foretells this answer: as it is at some moment, to some environment
 abbrev pub Gives : {R H : Type 0} → (R → Stack H) → Answer Content H → Type 0
 Gives {R} {H} answer given = (r : R) × (ps : Pairs) × (input : List ℕ) × (given ≡ answer r ps input)
 
@@ -38,14 +38,14 @@ pub record AsksOn (s : Seen) (c : Shown) (requests : List Parts) (good : ℕ) (a
 -- requests were run from number `first` on, and what the runner tells grew by them: its answers by those of the runs
 -- that were Ok, and what it was asked by the environments of these requests, whichever were the first ones. A connection
 -- that stood for its talk over some replies does so over these below that number, and from it on over those by the
--- answers that the runner gave. Of a run that was not Ok there is no reply
+-- answers that the runner gave. Of a run that was not Ok there is no reply, and its answer is one that was foretold
 pub record Ran {R H : Type 0} (Stands : Teller H → Type 0) (T : Teller H) (answer : R → Stack H) (first : ℕ) (s s' : Seen) (c : Shown)
     (answered answered' : Option (List (Answer Content H))) (asked asked' : Option (List (Asked × Bool))) : Type 0 where
   pub answers : Answers H
   pub good : ℕ
   pub good_is : AreOk first good c
   pub stands : Stands (tell_from T first answers c.local c.peer c.ending.closing)
-  pub gives : (k : ℕ) → first ≤ k → k < c.calls → Gives answer (answers k)
+  pub gives : (k : ℕ) → first ≤ k → k < c.calls → (k < first + good) ⊎ Gives answer (answers k)
   pub answered_is : answered' ≡ appended answered (answers_to answers first good)
   pub unsaid : first + good < c.calls → SentUpTo (tell_from T first answers c.local c.peer c.ending.closing) s' (first + good)
   pub asks : (requests : List Parts) → HasAsked s first requests → AsksOn s' c requests good asked asked'

@@ -1,6 +1,7 @@
 // A request is run, or a refusal is named, and a reply begins.
 ghost use Rattle.std.specs.Prelude.{◌≡◌, ◌<◌, ◌≤◌, ◌+◌, ◌-◌, ◌^◌, ℕ, List, true, Some, if◌then◌else◌};
 ghost use Rattle.rack_types.specs.Env.{Pairs};
+ghost use Rattle.rack_types.specs.Runner.{Becomes};
 ghost use Rattle.rack_outside.specs.Link.{Seen};
 ghost use Rattle.talk_core.specs.Teller.{Teller, is_last};
 ghost use Rattle.conn_core.specs.Holds.{HoldsBy};
@@ -54,16 +55,18 @@ fn is_last(closing: Option<u64>, calls: u64) -> bool
 impl<B: Body, H: Hijack + Drop> Inside<B, H> {
     // Runs the request that stands, and begins its reply, or hands the connection to a hijacker. It tells whether the run
     // was made.
+    #[tactic(auto, using(crate::proofs::RanLemmas::becomes_none, crate::proofs::RanLemmas::becomes_once))]
     fn answer<R: Runner<B, H>>(&mut self, runner: &mut R, now: u64) -> bool
         requires at { self.old.at ≡ At.Asked }
         requires room { R.runs runner.old < 2 ^ 64 - 1 }
-        ensures holds { (T : Teller H) (s : Seen)
+        ensures holds { R.steady ≡ true → (T : Teller H) (s : Seen)
             → TellsFrom T (R.answer runner.old) self.old.local self.old.peer self.new.ending.closing self.old.calls self.new.calls
             → HoldsBy (record { says = H.says; ends = H.ends }) T s self.old → HoldsBy (record { says = H.says; ends = H.ends }) T s self.new }
         ensures any { (T : Teller H) (s : Seen) → HoldsBy (record { says = H.says; ends = H.ends }) T s self.old
             → Ran (λ U. HoldsBy (record { says = H.says; ends = H.ends }) U s self.new) T R.answer self.old.calls s s (shows self.new) (R.answered runner.old) (R.answered runner.new) (R.asked runner.old) (R.asked runner.new) }
         ensures runs { RunsOnce now result (shows self.old) (shows self.new) }
         ensures counts { R.runs runner.new ≡ R.runs runner.old + runs_of result }
+        ensures becomes { Becomes R.becomes runner.old runner.new }
         ensures steady { R.steady ≡ true → (ps : Pairs) (input : List ℕ) → R.answer runner.new ps input ≡ R.answer runner.old ps input }
     {
         match prepare(&mut self.intake, &mut self.env, &self.peer, &self.local) {
@@ -98,11 +101,12 @@ impl<B: Body, H: Hijack + Drop> Inside<B, H> {
     }
 
     // Takes up the request or the refusal that stands.
+    #[tactic(auto, using(crate::proofs::RanLemmas::becomes_none))]
     pub(crate) fn start<R: Runner<B, H>>(&mut self, runner: &mut R, left: &mut Left, now: u64)
         requires ready { state_at self.old.at ≡ State.Ready }
         requires left { 0 < left.old.runs }
         requires room { R.runs runner.old < 2 ^ 64 - 1 }
-        ensures holds { (T : Teller H) (s : Seen)
+        ensures holds { R.steady ≡ true → (T : Teller H) (s : Seen)
             → TellsFrom T (R.answer runner.old) self.old.local self.old.peer self.new.ending.closing self.old.calls self.new.calls
             → HoldsBy (record { says = H.says; ends = H.ends }) T s self.old → HoldsBy (record { says = H.says; ends = H.ends }) T s self.new }
         ensures any { (T : Teller H) (s : Seen) → HoldsBy (record { says = H.says; ends = H.ends }) T s self.old
@@ -112,6 +116,7 @@ impl<B: Body, H: Hijack + Drop> Inside<B, H> {
         ensures few { left.new.runs ≤ left.old.runs }
         ensures falls { work left.new self.new.at < work left.old self.old.at }
         ensures counts { R.runs runner.new + left.new.runs ≡ R.runs runner.old + left.old.runs }
+        ensures becomes { Becomes R.becomes runner.old runner.new }
         ensures steady { R.steady ≡ true → (ps : Pairs) (input : List ℕ) → R.answer runner.new ps input ≡ R.answer runner.old ps input }
     {
         match &self.at {

@@ -1,6 +1,7 @@
 // A connection.
 ghost use Rattle.std.specs.Prelude.{◌≡◌, ◌≢◌, ◌<◌, ◌+◌, ◌-◌, ◌^◌, ◌≤◌, ◌↔◌, [], ◌∷◌, ℕ, List, true, false, None, Some, is_some, IfOk, IfErr, IsTrue};
 ghost use Rattle.rack_types.specs.Env.{Pairs};
+ghost use Rattle.rack_types.specs.Runner.{Becomes};
 ghost use Rattle.rack_types.specs.Limits.{stock_limits};
 ghost use Rattle.talk_core.specs.Ended.{Shows, IsEnded, StandsForTalk};
 ghost use Rattle.talk_core.specs.Teller.{Stacks, Teller, last_phase};
@@ -214,6 +215,7 @@ impl<L: Link, B: Body, H: Hijack + Drop> Conn<L, B, H> {
         ensures turns { Turns now result (reaching now (shown self.old)) (shown self.new) (L.seen (link_of self.old)) (L.seen (link_of self.new)) }
         ensures rightly { (T : Teller H) → HoldsWith L.seen (record { says = H.says; ends = H.ends }) T self.old → TurnsRightly now (reaching now (shown self.old)) (shown self.new) (L.seen (link_of self.old)) (L.seen (link_of self.new)) }
         ensures runs { R.runs runner.new + (shown self.old).calls ≡ R.runs runner.old + (shown self.new).calls }
+        ensures becomes { Becomes R.becomes runner.old runner.new }
         ensures steady { R.steady ≡ true → (ps : Pairs) (input : List ℕ) → R.answer runner.new ps input ≡ R.answer runner.old ps input }
         ensures any { (T : Teller H) → HoldsWith L.seen (record { says = H.says; ends = H.ends }) T self.old
             → Ran (λ U. HoldsWith L.seen (record { says = H.says; ends = H.ends }) U self.new) T R.answer (shown self.old).calls (L.seen (link_of self.old)) (L.seen (link_of self.new)) (shown self.new)

@@ -8,7 +8,7 @@ ghost use Rattle.message_framing.specs.Intake.{Fed, StandsWhole};
 ghost use Rattle.message_framing.specs.Request.{IsRequest};
 ghost use Rattle.talk_core.specs.Teller.{ask_of};
 ghost use Rattle.conn_core.specs.Place.{IsFraming};
-ghost use Rattle.conn_core.specs.RunOnce.{TellsRun};
+ghost use Rattle.conn_core.specs.RunOnce.{RunsTo};
 ghost use Rattle.conn_core.specs.Steps.{FeedsHeld, BeginsAs, TakesAll, BeginsTaken, BeginsAt, IsWrittenAt, IsHanded, FillsTo, HasRequest, CompletesTo};
 
 use crate::held::Held;
@@ -104,9 +104,9 @@ pub(crate) fn run<B: Body, H: Drop, R: Runner<B, H>>(
     last: bool,
 ) -> At<B, H>
     requires { R.runs runner.old < 2 ^ 64 - 1 }
-    ensures begins { BeginsAt ask env.old.pairs (R.answer runner.old env.old.pairs env.old.input.bytes) last result }
+    ensures runs { RunsTo R.steady (R.answer runner.old env.old.pairs env.old.input.bytes) ask (env.old.pairs, env.old.input.bytes) last (R.answered runner.old) (R.answered runner.new) (R.asked runner.old) (R.asked runner.new) result }
     ensures counts { R.runs runner.new ≡ R.runs runner.old + 1 }
-    ensures tells { TellsRun (R.answer runner.old env.old.pairs env.old.input.bytes) (env.old.pairs, env.old.input.bytes) (R.answered runner.old) (R.answered runner.new) (R.asked runner.old) (R.asked runner.new) result }
+    ensures becomes { R.becomes runner.old runner.new }
     ensures steady { R.steady ≡ true → (ps : Pairs) (input : List ℕ) → R.answer runner.new ps input ≡ R.answer runner.old ps input }
 {
     match runner.run(env) {

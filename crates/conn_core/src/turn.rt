@@ -1,6 +1,7 @@
 // Requests are answered, one behind the other.
 ghost use Rattle.std.specs.Prelude.{◌≡◌, ◌<◌, ◌≤◌, ◌+◌, ◌-◌, ◌^◌, ℕ, List, true};
 ghost use Rattle.rack_types.specs.Env.{Pairs};
+ghost use Rattle.rack_types.specs.Runner.{Becomes};
 ghost use Rattle.talk_core.specs.Teller.{Teller};
 ghost use Rattle.conn_core.specs.Calls.{Turns, TurnsRightly};
 ghost use Rattle.conn_core.specs.Holds.{HoldsBy};
@@ -45,6 +46,7 @@ impl<B: Body, H: Hijack + Drop> Inside<B, H> {
     }
 
     // One run, read or write, where one is left.
+    #[tactic(auto, using(crate::proofs::RanLemmas::becomes_none))]
     fn step<L: Link, R: Runner<B, H>>(
         &mut self,
         link: &mut L,
@@ -53,7 +55,7 @@ impl<B: Body, H: Hijack + Drop> Inside<B, H> {
         now: u64,
     ) -> Step
         requires room { R.runs runner.old + left.old.runs < 2 ^ 64 }
-        ensures holds { (T : Teller H)
+        ensures holds { R.steady ≡ true → (T : Teller H)
             → TellsFrom T (R.answer runner.old) self.old.local self.old.peer self.new.ending.closing self.old.calls self.new.calls
             → HoldsBy (record { says = H.says; ends = H.ends }) T (L.seen link.old) self.old → HoldsBy (record { says = H.says; ends = H.ends }) T (L.seen link.new) self.new }
         ensures any { (T : Teller H) → HoldsBy (record { says = H.says; ends = H.ends }) T (L.seen link.old) self.old
@@ -63,6 +65,7 @@ impl<B: Body, H: Hijack + Drop> Inside<B, H> {
         ensures moves { StepMoves now result (shows self.old) (shows self.new) (L.seen link.old) (L.seen link.new) left.old left.new }
         ensures leaves { StepLeaves result left.old left.new self.old.at self.new.at (L.seen link.old) (L.seen link.new) }
         ensures counts { R.runs runner.new + left.new.runs ≡ R.runs runner.old + left.old.runs }
+        ensures becomes { Becomes R.becomes runner.old runner.new }
         ensures steady { R.steady ≡ true → (ps : Pairs) (input : List ℕ) → R.answer runner.new ps input ≡ R.answer runner.old ps input }
     {
         match state_at(&self.at) {
@@ -115,6 +118,7 @@ impl<B: Body, H: Hijack + Drop> Inside<B, H> {
         ensures turns { Turns now result (shows self.old) (shows self.new) (L.seen link.old) (L.seen link.new) }
         ensures rightly { (T : Teller H) → HoldsBy (record { says = H.says; ends = H.ends }) T (L.seen link.old) self.old → TurnsRightly now (shows self.old) (shows self.new) (L.seen link.old) (L.seen link.new) }
         ensures counts { R.runs runner.new + self.old.calls ≡ R.runs runner.old + self.new.calls }
+        ensures becomes { Becomes R.becomes runner.old runner.new }
         ensures steady { R.steady ≡ true → (ps : Pairs) (input : List ℕ) → R.answer runner.new ps input ≡ R.answer runner.old ps input }
     {
         let replied = replied_at(&self.at, self.calls);

@@ -16,6 +16,7 @@ use Rattle.conn_core.specs.Keeps.{Keeps, Run, Want, ending_run, drains_now, fill
 use Rattle.conn_core.specs.Place.{state_at}
 use Rattle.conn_core.specs.Rests.{RestsAt, Begins}
 use Rattle.conn_core.specs.Shown.{shows, replied_at, why_at}
+use Rattle.conn_core.specs.Steps.{BeginsAt}
 use Rattle.conn_core.proofs.BeginLemmas.{with_run, answered, unanswered, asked_ring, asked_few, asked_unended, begins_rest, hands_hold}
 use Rattle.conn_core.proofs.FilledLemmas.{shown_at}
 use Rattle.conn_core.proofs.BegunLemmas.{begins_run}
@@ -43,34 +44,37 @@ invariant_of-self g c =
       rests = subst (λ (a : At g.row.B.Denot g.row.H.Denot). RestsAt a c.prepare.new.intake c.hand_over-at.new.held c.hand_over-at.new.ring.items (p.calls + 1) m)
           (sym c.put.ensures)
           (begins_rest V c.run-at.result c.hand_over-at.result c.in-Ok.ask c.prepare.new.env.pairs
-          (g.R.Runner.answer c.args.runner.now c.prepare.new.env.pairs c.prepare.new.env.input.bytes) c.is_last-last.result p.calls c.prepare.new.intake
-          p.held c.hand_over-at.new.held p.ring.items c.hand_over-at.new.ring.items p.ending m c.run-at.ensures.begins c.hand_over-at.ensures.hands
+          c.run-at.ensures.runs.answer c.is_last-last.result p.calls c.prepare.new.intake
+          p.held c.hand_over-at.new.held p.ring.items c.hand_over-at.new.ring.items p.ending m c.run-at.ensures.runs.begins c.hand_over-at.ensures.hands
           c.in-Ok.ensures.whole (asked_unended p.at p.intake p.held p.ring.items p.calls p.ending c.requires.at p.rests) is c.is_last-last.ensures
           (asked_few p.at p.intake p.held p.ring.items p.calls p.ending c.requires.at p.rests)
           (asked_ring p.at p.intake p.held p.ring.items p.calls p.ending c.requires.at p.rests));
       begins = subst (λ (a : At g.row.B.Denot g.row.H.Denot). Begins a c.prepare.new.intake p.moments.begun) (sym c.put.ensures)
           (begins_run V c.run-at.result c.hand_over-at.result c.in-Ok.ask c.prepare.new.env.pairs
-          (g.R.Runner.answer c.args.runner.now c.prepare.new.env.pairs c.prepare.new.env.input.bytes) c.is_last-last.result
-          p.held p.ring.items c.hand_over-at.new.ring.items c.hand_over-at.new.held c.prepare.new.intake p.moments.begun c.run-at.ensures.begins
+          c.run-at.ensures.runs.answer c.is_last-last.result
+          p.held p.ring.items c.hand_over-at.new.ring.items c.hand_over-at.new.held c.prepare.new.intake p.moments.begun c.run-at.ensures.runs.begins
           c.hand_over-at.ensures.hands);
     }
 
 pub returns-in-Ok-clause-holds : goal.returns-in-Ok-clause-holds
-returns-in-Ok-clause-holds g c = λ T s told h.
+returns-in-Ok-clause-holds g c = λ steady T s told h.
     let V : Voice g.row.H.Denot = record { says = g.H.Hijack.says; ends = g.H.Hijack.ends } in
     let p = c.args.self.now in
     let m : Ending = record p.ending { closing = c.closing-self.result } in
     let is = run_ending p.ending p.held p.calls c.drains-drains.result c.closing-self.result c.drains-drains.ensures c.closing-self.ensures in
+    let env = c.prepare.new.env in
+    let begins = subst (λ (a : Answer Content g.row.H.Denot). BeginsAt c.in-Ok.ask env.pairs a c.is_last-last.result c.run-at.result)
+    (c.run-at.ensures.runs.steady_is steady) c.run-at.ensures.runs.begins in
     let first : p.calls ≤ p.calls = omega arith in
     let last : p.calls < p.calls + 1 = omega arith in
     stands_place c.hand_over-at.result c.put.new.at V T s p.peer _ (sym c.put.ensures)
     (hands_hold V T s p.peer (with_run (kept p) c.prepare.new.intake (p.calls + 1) m) c.run-at.result c.hand_over-at.result c.in-Ok.ask c.prepare.new.env.pairs
     (g.R.Runner.answer c.args.runner.now c.prepare.new.env.pairs c.prepare.new.env.input.bytes) c.is_last-last.result p.ring.items
-    c.hand_over-at.new.ring.items c.hand_over-at.new.held c.run-at.ensures.begins c.hand_over-at.ensures.hands refl
+    c.hand_over-at.new.ring.items c.hand_over-at.new.held begins c.hand_over-at.ensures.hands refl
     (asked_ring p.at p.intake p.held p.ring.items p.calls p.ending c.requires.at p.rests)
     (answered V T s p.peer p.local (kept p) c.run-at.result c.prepare.new.intake
     (p.calls + 1) m (g.R.Runner.answer c.args.runner.now) c.is_last-last.result c.in-Ok.ask c.prepare.new.env refl is
-    c.is_last-last.ensures c.in-Ok.ensures.asks c.run-at.ensures.begins (told p.calls first last)
+    c.is_last-last.ensures c.in-Ok.ensures.asks begins (told p.calls first last)
     (stands_place p.at at.Asked V T s p.peer (kept p) c.requires.at h)))
 
 pub returns-in-Ok-clause-any : goal.returns-in-Ok-clause-any
@@ -80,27 +84,27 @@ returns-in-Ok-clause-any g c = λ T s h.
     let m : Ending = record p.ending { closing = c.closing-self.result } in
     let is = run_ending p.ending p.held p.calls c.drains-drains.result c.closing-self.result c.drains-drains.ensures c.closing-self.ensures in
     let env = c.prepare.new.env in
-    let x : Answer Content g.row.H.Denot = g.R.Runner.answer c.args.runner.now env.pairs env.input.bytes in
+    let x : Answer Content g.row.H.Denot = c.run-at.ensures.runs.answer in
     let answers : Answers g.row.H.Denot = λ k. x in
     let U : Teller g.row.H.Denot = tell_from T p.calls answers p.local p.peer m.closing in
     let before : AgreesBelow p.calls T U = from_before T p.calls answers p.local p.peer m.closing in
     let first : p.calls ≤ p.calls = omega arith in
     ran_once V T g.R.Runner.answer s p.peer p.local (kept p) _ env x c.run-at.result _
     (g.R.Runner.answered c.args.runner.now) (g.R.Runner.answered c.run-at.new.runner) (g.R.Runner.asked c.args.runner.now) (g.R.Runner.asked c.run-at.new.runner)
-    refl refl refl (c.args.runner.now, env.pairs, env.input.bytes, refl) c.run-at.ensures.tells
+    refl refl refl c.run-at.ensures.runs.tells (λ e. (c.args.runner.now, env.pairs, env.input.bytes, c.run-at.ensures.runs.refused_is e))
     (λ e. ap (λ (a : At g.row.B.Denot g.row.H.Denot). why_at a) c.put.ensures
-    ∙ ran_wants V c.run-at.result c.hand_over-at.result p.held p.ring.items c.hand_over-at.new.ring.items c.hand_over-at.new.held (c.run-at.ensures.tells.refused e)
+    ∙ ran_wants V c.run-at.result c.hand_over-at.result p.held p.ring.items c.hand_over-at.new.ring.items c.hand_over-at.new.held (c.run-at.ensures.runs.tells.refused e)
     c.hand_over-at.ensures.hands)
     (λ now r fed is. (c.in-Ok.ensures.asks now r fed is).1)
     (stands_place p.at at.Asked V T s p.peer (kept p) c.requires.at h)
     (stands_place c.hand_over-at.result c.put.new.at V U s p.peer _ (sym c.put.ensures)
     (hands_hold V U s p.peer (with_run (kept p) c.prepare.new.intake (p.calls + 1) m) c.run-at.result c.hand_over-at.result c.in-Ok.ask
     env.pairs x c.is_last-last.result p.ring.items
-    c.hand_over-at.new.ring.items c.hand_over-at.new.held c.run-at.ensures.begins c.hand_over-at.ensures.hands refl
+    c.hand_over-at.new.ring.items c.hand_over-at.new.held c.run-at.ensures.runs.begins c.hand_over-at.ensures.hands refl
     (asked_ring p.at p.intake p.held p.ring.items p.calls p.ending c.requires.at p.rests)
     (answered V U s p.peer p.local (kept p) c.run-at.result c.prepare.new.intake
     (p.calls + 1) m (λ ps input. x) c.is_last-last.result c.in-Ok.ask env refl is
-    c.is_last-last.ensures c.in-Ok.ensures.asks c.run-at.ensures.begins (λ r. from_here T p.calls answers p.local p.peer m.closing p.calls r first)
+    c.is_last-last.ensures c.in-Ok.ensures.asks c.run-at.ensures.runs.begins (λ r. from_here T p.calls answers p.local p.peer m.closing p.calls r first)
     (stands_place p.at at.Asked V U s p.peer (kept p) c.requires.at (retold V T U s p.peer p.at (kept p) before h)))))
 
 pub returns-in-Err-clause-any : goal.returns-in-Err-clause-any
@@ -128,7 +132,7 @@ returns-in-Ok-clause-runs g c =
           answer c.is_last-last.result c.run-at.result c.hand_over-at.result
           p.held p.ring.items ring left (record { peer = refl; local = refl; lives = refl; taken = refl }) refl
           (ap (λ (a : At g.row.B.Denot g.row.H.Denot). state_at a) place) (ap (λ (a : At g.row.B.Denot g.row.H.Denot). why_at a) place) refl refl
-          (ap (λ (a : At g.row.B.Denot g.row.H.Denot). replied_at a (p.calls + 1)) place) c.run-at.ensures.begins c.hand_over-at.ensures.hands,
+          (ap (λ (a : At g.row.B.Denot g.row.H.Denot). replied_at a (p.calls + 1)) place) c.run-at.ensures.runs.begins c.hand_over-at.ensures.hands,
       subst (λ (d : At g.row.B.Denot g.row.H.Denot). Keeps c.args.now Run (shows p)
           (shown_at d ring left p.peer p.local p.lives.items (p.calls + 1) p.taken m (record p.moments { filled = c.filled-self.result }))) (sym place)
           (subst (λ (k : ℕ). Keeps c.args.now Run (shows p)
@@ -138,7 +142,7 @@ returns-in-Ok-clause-runs g c =
           (shown_at c.hand_over-at.result ring left p.peer p.local p.lives.items (p.calls + 1) p.taken x
           (filled_then c.args.now ring p.moments))) (sym is)
           (run_keeps c.args.now p.peer p.local p.lives.items p.calls p.taken p.ending p.moments V p.at c.run-at.result c.hand_over-at.result c.in-Ok.ask
-          c.prepare.new.env.pairs answer c.is_last-last.result p.held p.ring.items ring left (p.calls + 1) c.run-at.ensures.begins
+          c.prepare.new.env.pairs answer c.is_last-last.result p.held p.ring.items ring left (p.calls + 1) c.run-at.ensures.runs.begins
           c.hand_over-at.ensures.hands (asked_ring p.at p.intake p.held p.ring.items p.calls p.ending c.requires.at p.rests)))),
     )
 

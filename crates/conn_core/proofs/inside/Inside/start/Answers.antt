@@ -10,7 +10,7 @@ use Rattle.conn_core.proofs.inside.Inside.start.Goals as goal
 
 pub returns-else-answer : goal.returns-else-answer
 returns-else-answer g c = record {
-  holds = λ T s by h. c.if-answer.ensures.holds T s by h;
+  holds = λ steady T s by h. c.if-answer.ensures.holds steady T s by h;
   any = λ T s h. c.if-answer.ensures.any T s h;
   takes = inr (omega arith, inr (unrefused c.args.self.now.at c.requires.ready c.in_default.not-Refused, c.if-answer.ensures.runs.0, c.if-answer.ensures.runs.1));
   left = refl;

@@ -7,7 +7,7 @@ use Rattle.conn_core.proofs.MoveLemmas.{owes_rightly, hearing_owes}
 use Rattle.conn_core.proofs.MovingLemmas.{full, start_makes, moving_start, moving_step, moving_end}
 use Rattle.conn_core.proofs.RightlyLemmas.{rightly_start, rightly_step, rightly_end}
 use Rattle.conn_core.proofs.StandsLemmas.{begins_rightly}
-use Rattle.conn_core.proofs.RanLemmas.{ran_step, ran_rightly}
+use Rattle.conn_core.proofs.RanLemmas.{ran_step, ran_rightly, becomes_then}
 use Rattle.conn_core.proofs.TurnLemmas.{turning_start, turning_step, turning_end, step_stops, risen, ready_unended, tells_step, tells_before}
 use Rattle.conn_core.proofs.inside.Inside.turn.Goals as goal
 
@@ -16,7 +16,7 @@ loop-self-init g c =
     let p = c.args.self.now in
     let made = start_makes c.args.now (shows c.args.self.now) (shows c.start.new.self) (g.L.Link.seen c.args.link.now) c.new-left.result c.start.new.left
     c.new-left.ensures c.start.ensures.takes c.start.ensures.left c.start.ensures.few c.requires.ready (owes_rightly c.start.new.self) in record {
-      holds = λ e T tells h. c.start.ensures.holds T (g.L.Link.seen c.args.link.now) tells h;
+      holds = λ e T tells h. c.start.ensures.holds e T (g.L.Link.seen c.args.link.now) tells h;
       any = λ T h. c.start.ensures.any T (g.L.Link.seen c.args.link.now) h;
       turning = turning_start c.args.now (shows c.args.self.now) (shows c.start.new.self) (g.L.Link.seen c.args.link.now) c.new-left.result c.start.new.left
           c.new-left.ensures c.start.ensures.takes c.start.ensures.left c.start.ensures.few
@@ -29,6 +29,7 @@ loop-self-init g c =
           (g.R.Runner.answered c.args.runner.now) (g.R.Runner.answered c.start.new.runner) (g.R.Runner.asked c.args.runner.now) (g.R.Runner.asked c.start.new.runner)
           (c.start.ensures.any T (g.L.Link.seen c.args.link.now) h));
       counts = c.start.ensures.counts ∙ ap (λ (l : Left). g.R.Runner.runs c.args.runner.now + l.runs) c.new-left.ensures;
+      becomes = c.start.ensures.becomes;
       steady = c.start.ensures.steady;
     }
 
@@ -48,7 +49,7 @@ loop-self-preserved g c =
     let counts : g.R.Runner.runs c.step.new.runner + c.step.new.left.runs ≡ g.R.Runner.runs c.args.runner.now + 10 = c.step.ensures.counts ∙ i.counts in
     record {
       holds = λ e T tells h.
-          c.step.ensures.holds T
+          c.step.ensures.holds e T
           (tells_step T (g.R.Runner.answer c.args.runner.now) (g.R.Runner.answer c.loop-self.runner) c.args.self.now.local c.loop-self.self.local
           c.args.self.now.peer c.loop-self.self.peer c.step.new.self.ending.closing c.args.self.now.calls c.loop-self.self.calls c.step.new.self.calls
           (i.steady e) i.turning.moved.local i.turning.moved.peer grew tells)
@@ -77,6 +78,7 @@ loop-self-preserved g c =
           (g.R.Runner.asked c.args.runner.now) (g.R.Runner.asked c.loop-self.runner) (g.R.Runner.asked c.step.new.runner)
           c.args.now c.step.result c.loop-self.left c.step.new.left grew c.step.ensures.steps c.step.ensures.moves (i.any T h) (λ U u. c.step.ensures.any U u)));
       counts = counts;
+      becomes = becomes_then g.R.Runner.becomes c.args.runner.now c.loop-self.runner c.step.new.runner i.becomes c.step.ensures.becomes;
       steady = λ e ps input. c.step.ensures.steady e ps input ∙ i.steady e ps input;
     }
 
@@ -85,7 +87,7 @@ returns-in-Waits-clause-holds g c = λ e T tells h.
     let i = c.loop-self.invariant in
     let grew : c.args.self.now.calls ≤ c.loop-self.self.calls = omega (arith, i.turning.calls, i.turning.few) in
     let more : c.loop-self.self.calls ≤ c.step.new.self.calls = omega (arith, c.step.ensures.steps.calls, c.step.ensures.steps.few) in
-    c.step.ensures.holds T
+    c.step.ensures.holds e T
     (tells_step T (g.R.Runner.answer c.args.runner.now) (g.R.Runner.answer c.loop-self.runner) c.args.self.now.local c.loop-self.self.local
     c.args.self.now.peer c.loop-self.self.peer c.step.new.self.ending.closing c.args.self.now.calls c.loop-self.self.calls c.step.new.self.calls
     (i.steady e) i.turning.moved.local i.turning.moved.peer grew tells)
@@ -136,6 +138,10 @@ pub returns-in-Waits-clause-counts : goal.returns-in-Waits-clause-counts
 returns-in-Waits-clause-counts g c =
     let i = c.loop-self.invariant in
     omega (arith, c.step.ensures.counts, i.counts, c.step.ensures.steps.calls, i.turning.calls)
+
+pub returns-in-Waits-clause-becomes : goal.returns-in-Waits-clause-becomes
+returns-in-Waits-clause-becomes g c =
+    becomes_then g.R.Runner.becomes c.args.runner.now c.loop-self.runner c.step.new.runner c.loop-self.invariant.becomes c.step.ensures.becomes
 
 pub returns-in-Waits-clause-steady : goal.returns-in-Waits-clause-steady
 returns-in-Waits-clause-steady g c = λ e ps input. c.step.ensures.steady e ps input ∙ c.loop-self.invariant.steady e ps input

@@ -1,5 +1,6 @@
 use Rattle.std.proofs.Common.{◌≡◌, ◌+◌, ℕ, List, true, false}
 use Rattle.rack_types.specs.Env.{Pairs}
+use Rattle.rack_types.specs.Runner.{Becomes}
 use Rattle.talk_core.specs.Teller.{Teller}
 use Rattle.conn_core.specs.Holds.{HoldsBy}
 use Rattle.conn_core.specs.Inner.{TellsFrom, left_at, work}
@@ -25,6 +26,7 @@ invariant-loop-self g l = record {
   rightly : (T : Teller g.row.H.Denot) → HoldsBy (record { says = g.H.Hijack.says; ends = g.H.Hijack.ends }) T (g.L.Link.seen l.fn.link) l.fn.self
       → MovingRightly l.fn.now (left_at (shows l.fn.self) (g.L.Link.seen l.fn.link) full false) (left_at (shows l.self) (g.L.Link.seen l.link) l.left false);
   counts : g.R.Runner.runs l.runner + l.left.runs ≡ g.R.Runner.runs l.fn.runner + 10;
+  becomes : Becomes g.R.Runner.becomes l.fn.runner l.runner;
   steady : g.R.Runner.steady ≡ true → (ps : Pairs) (input : List ℕ) → g.R.Runner.answer l.runner ps input ≡ g.R.Runner.answer l.fn.runner ps input;
 }
 
