@@ -55,7 +55,7 @@ fn once(does: Does, conn: &mut Parked, watcher: &mut MemWatcher, now: u64) -> bo
                 == Tick::Still,
         },
         Does::Tell => match conn.tell_drain(1) {
-            Told::Stays | Told::Unread => true,
+            Told::Stays | Told::Unread | Told::Idle => true,
             Told::Write | Told::Over => false,
         },
         Does::Watch => conn.watch(watcher, 1),

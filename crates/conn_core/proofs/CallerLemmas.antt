@@ -1,5 +1,5 @@
 -- What crates above may cite: lemmas over the public definitions.
-use Rattle.std.proofs.Common.{◌≡◌, ◌≢◌, ℕ, zero, suc, ◌+◌, ◌-◌, ◌^◌, ◌<◌, min, Bool, List, refl, subst, arith, None, Some}
+use Rattle.std.proofs.Common.{◌≡◌, ◌≢◌, ℕ, zero, suc, ◌+◌, ◌-◌, ◌^◌, ◌<◌, ◌≤◌, min, Bool, List, [], ◌∷◌, length, refl, ap, subst, arith, Option, None, Some}
 use Rattle.std.specs.Prelude.{is_some}
 use Rattle.rack_types.specs.declared.body.Body.{Ghosts}
 use Rattle.rack_outside.specs.Link.{Seen}
@@ -8,7 +8,18 @@ use Rattle.talk_core.specs.Counts.{counted_by}
 use Rattle.talk_core.specs.declared.ended.Why.{Why}
 use Rattle.talk_core.specs.Ended.{Past, Shows}
 use Rattle.talk_core.specs.Tail.{Voice}
-use Rattle.talk_core.specs.Teller.{Stacks, Teller, tell}
+use Rattle.talk_core.specs.Teller.{Stacks, Teller, tell, last_phase, phase_at, ask_of, is_last}
+use Rattle.talk_core.specs.declared.ended.Life.{Life}
+use Rattle.talk_core.specs.Lives.{lives_limit, AreLives, placed_lives}
+use Rattle.talk_core.proofs.CallerLemmas.{phase_below, placed_phase, placed_longer, placed_stay, unused_placed}
+use Rattle.rack_types.specs.declared.answer.Answer.{Answer}
+use Rattle.rack_types.specs.Body.{Content}
+use Rattle.rack_types.specs.Env.{Pairs}
+use Rattle.rack_env.specs.Environment.{env_pairs}
+use Rattle.reply_framing.specs.Reply.{reply}
+use Rattle.conn_core.specs.Owner.{IsUnread, HasRoomFor, IsNoneAbove, placed}
+use Rattle.conn_core.proofs.RetellLemmas.{retold}
+use Rattle.conn_core.proofs.UnreadLemmas.{unread}
 use Rattle.conn_core.specs.declared.conn.Conn.{Conn}
 use Rattle.conn_core.specs.declared.moments.Ending.{Ending}
 use Rattle.conn_core.specs.declared.place.At.{At}
@@ -136,3 +147,42 @@ part_at {L} {B} {H} {g} seen V S c live h =
       shows = i.shows;
       part = live_part c.inside.value.at V T (seen c.link) i.over i.given i.sent (kept c.inside.value) live i.at;
     }
+
+-- two lists of stacks that agree up to the last phase hold alike
+pub holds_by : {L B H : Type 0} {g : Ghosts B} (seen : L → Seen) (V : Voice H) (S U : Stacks H) (c : Conn L B H g)
+    → ((phase : ℕ) → phase ≤ last_phase (shown c).lives → (ps : Pairs) (input : List ℕ) → S phase ps input ≡ U phase ps input)
+    → Holds seen V S c → Holds seen V U c
+holds_by {L} {B} {H} {g} seen V S U c same h =
+    let p = c.inside.value in
+    let closing : Option ℕ = p.ending.closing in
+    record {
+      lives_are = h.lives_are;
+      stands = retold V (tell S p.lives.items p.local p.peer closing) (tell U p.lives.items p.local p.peer closing) (seen c.link) p.peer p.at (kept p)
+          (λ k lt r. ap (λ (a : Answer Content H). reply (ask_of r) (env_pairs r p.peer p.local) a (is_last closing k))
+          (same (phase_at p.lives.items k) (phase_below p.lives.items p.calls k h.lives_are) (env_pairs r p.peer p.local) r.body))
+          h.stands;
+    }
+
+-- one that has fewer than 64 lives has room for a placing, and may be placed in any phase from its last one on
+pub has_room : (phase : ℕ) (c : Shown) → length c.lives < lives_limit → HasRoomFor phase c
+has_room phase c few = let longer = placed_longer c.lives phase c.calls in omega (arith, longer, few)
+
+pub none_above : {L B H : Type 0} {g : Ghosts B} (seen : L → Seen) (V : Voice H) (S : Stacks H) (c : Conn L B H g) (phase : ℕ) → Holds seen V S c
+    → last_phase (shown c).lives ≤ phase → IsNoneAbove phase (shown c)
+none_above {L} {B} {H} {g} seen V S c phase h below = placed_stay (shown c).lives phase (shown c).calls h.lives_are below
+
+-- one of which no byte was ever read has one life, and may be placed in any phase
+pub unread_placed : {L B H : Type 0} {g : Ghosts B} (seen : L → Seen) (V : Voice H) (S : Stacks H) (c : Conn L B H g) (phase : ℕ) → Holds seen V S c
+    → IsUnread (shown c) → HasRoomFor phase (shown c) × IsNoneAbove phase (shown c)
+unread_placed {L} {B} {H} {g} seen V S c phase h none =
+    let p = c.inside.value in
+    unused_placed p.lives.items phase p.calls (unread V _ (seen c.link) p none.0 none.1 h.stands).2 h.lives_are
+
+-- placed in a phase, its next request is answered in that phase
+pub placed_last : {L B H : Type 0} {g : Ghosts B} (seen : L → Seen) (V : Voice H) (S : Stacks H) (c : Conn L B H g) (phase : ℕ) → Holds seen V S c
+    → last_phase (placed phase (shown c)).lives ≡ phase
+placed_last {L} {B} {H} {g} seen V S c phase h = some_phase (shown c).lives h.lives_are
+  where
+    some_phase : (lives : List Life) → AreLives lives (shown c).calls → last_phase (placed_lives phase (shown c).calls lives) ≡ phase
+    some_phase [] are = absurd are
+    some_phase (life ∷ lives) are = placed_phase life lives phase (shown c).calls

@@ -1,5 +1,5 @@
 -- A connection at its start, at its end, and while it lives.
-use Rattle.std.proofs.Common.{◌≡◌, ◌≢◌, ℕ, ◌+◌, ◌<◌, Bool, false, List, [], ◌∷◌, ◌++◌, length, refl, sym, ap, subst, ◌∙◌, arith, length-append, None, Some, Option, ◌⊎◌, inl, inr}
+use Rattle.std.proofs.Common.{◌≡◌, ◌≢◌, ℕ, ◌+◌, ◌<◌, ◌≤◌, Bool, false, List, [], ◌∷◌, ◌++◌, length, refl, sym, ap, subst, ◌∙◌, arith, length-append, None, Some, Option, ◌⊎◌, inl, inr}
 use Rattle.std.specs.Prelude.{is_some}
 use Rattle.std.proofs.lemmas.List.{append-nil}
 use Rattle.rack_types.specs.declared.answer.Answer.{Answer}
@@ -17,11 +17,12 @@ use Rattle.message_framing.proofs.CallerLemmas.{wanting_nil}
 use Rattle.talk_core.specs.declared.ended.Life.{Life}
 use Rattle.talk_core.specs.declared.ended.Why.{Why}
 use Rattle.talk_core.specs.declared.ended.Why.TheVariants as why
-use Rattle.talk_core.specs.Ended.{Shows, AreLives, AreEndedLives, IsEnded, StandsForTalk, IsTimed, EndsBy, Past}
+use Rattle.talk_core.specs.Lives.{AreLives}
+use Rattle.talk_core.specs.Ended.{Shows, AreEndedLives, IsEnded, StandsForTalk, IsTimed, EndsBy, Past}
 use Rattle.talk_core.specs.Stands.{Word, Stands, silent, replies, refuses, times_out, hands_over, Partly}
 use Rattle.talk_core.specs.Tail.{Voice}
 use Rattle.talk_core.specs.Teller.{Stack, Stacks, Teller, AgreesBelow, tell, last_phase, reply_of, ask_of, is_last}
-use Rattle.talk_core.proofs.CallerLemmas.{failure_ends, stands_new, one_phase, closes_none, closing_agrees, agrees_same, agrees_less}
+use Rattle.talk_core.proofs.CallerLemmas.{failure_ends, stands_new, lives_later, phase_behind, closes_none, closing_agrees, agrees_same, agrees_less}
 use Rattle.conn_core.specs.declared.inside.Inside.{Inside}
 use Rattle.conn_core.specs.declared.moments.Ending.{Ending}
 use Rattle.conn_core.specs.declared.moments.Late.{Late}
@@ -72,11 +73,12 @@ fresh_stands {B} {H} {g} V T s peer local phase now p f shows =
     (at_start V T s p.peer (kept p) (subst (λ (x : List ℕ). Shows s x [] [] false) (sym f.peer_is) shows) f.fed f.held f.ring f.calls f.taken f.ending)
 
 pub fresh_lives : {B H : Type 0} {g : Ghosts B} (peer : List ℕ) (local : Local) (phase now : ℕ) (p : Inside B H g) → IsFresh peer local phase now p
-    → AreLives p.lives.items
-fresh_lives {B} {H} {g} peer local phase now p f = subst AreLives (sym f.lives_are) refl
+    → AreLives p.lives.items p.calls
+fresh_lives {B} {H} {g} peer local phase now p f =
+    let few : 1 ≤ 64 = omega arith in subst (λ (x : List Life). AreLives x p.calls) (sym f.lives_are) (refl, few, tt)
 
 -- the lives of one that ended
-ended_lives : (lives : List Life) (ended : Why) (p : Past) → AreLives lives → AreEndedLives lives ended p
+ended_lives : (lives : List Life) (ended : Why) (p : Past) → AreLives lives p.calls → AreEndedLives lives ended p
 ended_lives [] ended p h = absurd h
 ended_lives (life ∷ lives) ended p h = h
 
@@ -96,7 +98,7 @@ plain_ends {H} m why.Hijacked V T p e = (e.h, e.rest, e.said, e.whole, e.sent, e
 
 -- its end
 end_at : {L B H : Type 0} {g : Ghosts B} (seen : L → Seen) (V : Voice H) (S : Stacks H) (number : ℕ) (link : L) (p : Inside B H g) (ended : Why)
-    → p.at ≡ at.Over ended → AreLives p.lives.items → HoldsBy V (tell S p.lives.items p.local p.peer p.ending.closing) (seen link) p
+    → p.at ≡ at.Over ended → AreLives p.lives.items p.calls → HoldsBy V (tell S p.lives.items p.local p.peer p.ending.closing) (seen link) p
     → IsEnded L seen V S p.local p.peer (record { number = number; link = link; lives = p.lives; calls = p.calls; told = p.ending.told; closing = p.ending.closing; why = ended })
 end_at {L} {B} {H} {g} seen V S number link p ended is lives h =
     let T : Teller H = tell S p.lives.items p.local p.peer p.ending.closing in
@@ -133,7 +135,7 @@ plain_end_of {L} {B} {H} {g} seen V S number link p q ended same is h =
     (plain_end_at seen V S number link p ended (sym (ap (λ (x : Inside B H g). x.at) same) ∙ is) h)
 
 pub end_of : {L B H : Type 0} {g : Ghosts B} (seen : L → Seen) (V : Voice H) (S : Stacks H) (number : ℕ) (link : L) (p q : Inside B H g) (ended : Why)
-    → q ≡ p → q.at ≡ at.Over ended → AreLives p.lives.items → HoldsBy V (tell S p.lives.items p.local p.peer p.ending.closing) (seen link) p
+    → q ≡ p → q.at ≡ at.Over ended → AreLives p.lives.items p.calls → HoldsBy V (tell S p.lives.items p.local p.peer p.ending.closing) (seen link) p
     → IsEnded L seen V S p.local p.peer (record { number = number; link = link; lives = q.lives; calls = q.calls; told = q.ending.told; closing = q.ending.closing; why = ended })
 end_of {L} {B} {H} {g} seen V S number link p q ended same is lives h =
     subst (λ (x : Inside B H g). IsEnded L seen V S p.local p.peer
@@ -236,7 +238,7 @@ live_part {B} {H} at.Refusing V T s over given sent c live h = refusing_part V T
 live_part {B} {H} (at.Over ended) V T s over given sent c live h = absurd (live refl)
 
 pub live_stands : {B H : Type 0} {g : Ghosts B} (V : Voice H) (S : Stacks H) (s : Seen) (p : Inside B H g) → state_at p.at ≢ state.Over
-    → AreLives p.lives.items → HoldsBy V (tell S p.lives.items p.local p.peer p.ending.closing) s p
+    → AreLives p.lives.items p.calls → HoldsBy V (tell S p.lives.items p.local p.peer p.ending.closing) s p
     → StandsForTalk s V S p.local p.peer p.lives.items p.calls p.ending.closing (is_some p.ending.late)
 live_stands {B} {H} {g} V S s p live lives h =
     let T : Teller H = tell S p.lives.items p.local p.peer p.ending.closing in
@@ -287,13 +289,13 @@ says_owed {B} {H} (at.Speaking who) intake held ring calls m h some = tt
 says_owed {B} {H} at.Parting intake held ring calls m h some = tt
 says_owed {B} {H} (at.Over ended) intake held ring calls m h some = absurd (some refl)
 
--- the replies by stacks of which one answers each request of the connection
-told_by : {H : Type 0} (S : Stacks H) (lives : List Life) (local : Local) (peer : List ℕ) (closing : Option ℕ) (stack : Stack H) → AreLives lives
-    → ((ps : Pairs) (input : List ℕ) → S (last_phase lives) ps input ≡ stack ps input) → (k : ℕ)
+-- the replies to the next requests, by stacks of which the one of the last life's phase is this one
+told_by : {H : Type 0} (S : Stacks H) (lives : List Life) (local : Local) (peer : List ℕ) (closing : Option ℕ) (stack : Stack H) (calls : ℕ)
+    → AreLives lives calls → ((ps : Pairs) (input : List ℕ) → S (last_phase lives) ps input ≡ stack ps input) → (k : ℕ) → calls ≤ k
     → TellsBy (tell S lives local peer closing) stack local peer closing k
-told_by {H} S lives local peer closing stack are same k r =
+told_by {H} S lives local peer closing stack calls are same k behind r =
     let ps : Pairs = env_pairs r peer local in
-    ap (λ (phase : ℕ). reply_of (S phase) ps r (is_last closing k)) (one_phase lives are k)
+    ap (λ (phase : ℕ). reply_of (S phase) ps r (is_last closing k)) (phase_behind lives calls k behind are)
     ∙ ap (λ (a : Answer Content H). reply (ask_of r) ps a (is_last closing k)) (same ps r.body)
 
 -- one that closes by draining is behind those that were run
@@ -311,19 +313,19 @@ drained_agrees {H} S lives local peer old new e =
     ]
 
 pub turn_holds : {B H : Type 0} {g : Ghosts B} (V : Voice H) (S : Stacks H) (mid new : Inside B H g) (s s' : Seen) (stack : Stack H)
-    → new.peer ≡ mid.peer → new.local ≡ mid.local → new.lives.items ≡ mid.lives.items → Drains (shows mid) (shows new) → AreLives mid.lives.items
+    → new.peer ≡ mid.peer → new.local ≡ mid.local → new.lives.items ≡ mid.lives.items → Drains (shows mid) (shows new) → mid.calls ≤ new.calls → AreLives mid.lives.items mid.calls
     → ((ps : Pairs) (input : List ℕ) → S (last_phase mid.lives.items) ps input ≡ stack ps input)
     → ((T : Teller H) → TellsFrom T stack mid.local mid.peer new.ending.closing mid.calls new.calls → HoldsBy V T s mid → HoldsBy V T s' new)
     → HoldsBy V (tell S mid.lives.items mid.local mid.peer mid.ending.closing) s mid
-    → AreLives new.lives.items × HoldsBy V (tell S new.lives.items new.local new.peer new.ending.closing) s' new
-turn_holds {B} {H} {g} V S mid new s s' stack peer local lives drains are same step h =
+    → AreLives new.lives.items new.calls × HoldsBy V (tell S new.lives.items new.local new.peer new.ending.closing) s' new
+turn_holds {B} {H} {g} V S mid new s s' stack peer local lives drains later are same step h =
     let closing : Option ℕ = new.ending.closing in
     let T : Teller H = tell S mid.lives.items mid.local mid.peer mid.ending.closing in
     let U : Teller H = tell S mid.lives.items mid.local mid.peer closing in
     let then : HoldsBy V U s' new =
-    step U (λ k first end. told_by S mid.lives.items mid.local mid.peer closing stack are same k)
+    step U (λ k first end. told_by S mid.lives.items mid.local mid.peer closing stack mid.calls are same k first)
     (retold V T U s mid.peer mid.at (kept mid) (drained_agrees S mid.lives.items mid.local mid.peer (shows mid) (shows new) drains.closing) h) in (
-      subst AreLives (sym lives) are,
+      subst (λ (x : List Life). AreLives x new.calls) (sym lives) (lives_later mid.lives.items mid.calls new.calls later are),
       subst (λ (x : List Life). HoldsBy V (tell S x new.local new.peer closing) s' new) (sym lives)
           (subst (λ (x : Local). HoldsBy V (tell S mid.lives.items x new.peer closing) s' new) (sym local)
           (subst (λ (x : List ℕ). HoldsBy V (tell S mid.lives.items mid.local x closing) s' new) (sym peer) then)),
@@ -332,14 +334,14 @@ turn_holds {B} {H} {g} V S mid new s s' stack peer local lives drains are same s
 -- a turn at another moment
 pub turn_at : {B H : Type 0} {g : Ghosts B} (V : Voice H) (S : Stacks H) (old same : Inside B H g) (t : Moments) (new : Inside B H g) (s s' : Seen)
     (stack : Stack H) → same ≡ old → new.peer ≡ same.peer → new.local ≡ same.local → new.lives.items ≡ same.lives.items
-    → Drains (record (shows same) { moments = t }) (shows new) → AreLives old.lives.items
+    → Drains (record (shows same) { moments = t }) (shows new) → same.calls ≤ new.calls → AreLives old.lives.items old.calls
     → ((ps : Pairs) (input : List ℕ) → S (last_phase old.lives.items) ps input ≡ stack ps input)
     → ((T : Teller H) → TellsFrom T stack same.local same.peer new.ending.closing same.calls new.calls → HoldsBy V T s same → HoldsBy V T s' new)
     → HoldsBy V (tell S old.lives.items old.local old.peer old.ending.closing) s old
-    → AreLives new.lives.items × HoldsBy V (tell S new.lives.items new.local new.peer new.ending.closing) s' new
-turn_at {B} {H} {g} V S old same t new s s' stack e peer local lives drains are answers step h =
+    → AreLives new.lives.items new.calls × HoldsBy V (tell S new.lives.items new.local new.peer new.ending.closing) s' new
+turn_at {B} {H} {g} V S old same t new s s' stack e peer local lives drains later are answers step h =
     turn_holds V S same new s s' stack peer local lives (record { told = drains.told; late = drains.late; left = drains.left; closing = drains.closing })
-    (subst (λ (x : Inside B H g). AreLives x.lives.items) (sym e) are)
+    later (subst (λ (x : Inside B H g). AreLives x.lives.items x.calls) (sym e) are)
     (subst (λ (x : Inside B H g). (ps : Pairs) (input : List ℕ) → S (last_phase x.lives.items) ps input ≡ stack ps input) (sym e) answers) step
     (subst (λ (x : Inside B H g). HoldsBy V (tell S x.lives.items x.local x.peer x.ending.closing) s x) (sym e) h)
 

@@ -1,5 +1,5 @@
 -- What stands behind a drain that was told.
-use Rattle.std.proofs.Common.{◌≡◌, ℕ, ◌≤◌, zero, suc, Bool, true, false, List, [], refl, sym, subst, Option, None, Some, inl, inr}
+use Rattle.std.proofs.Common.{◌≡◌, ℕ, ◌≤◌, zero, suc, nat_lt, Bool, true, false, if◌then◌else◌, List, [], length, refl, sym, subst, Option, None, Some, inl, inr}
 use Rattle.rack_types.specs.declared.body.Body.{Ghosts}
 use Rattle.rack_types.specs.declared.peer.Local.{Local}
 use Rattle.rack_types.specs.Request.{Parts}
@@ -10,7 +10,8 @@ use Rattle.reply_framing.specs.Reply.{body_after}
 use Rattle.rack_outside.specs.Link.{Seen}
 use Rattle.talk_core.specs.declared.ended.Life.{Life}
 use Rattle.talk_core.specs.declared.ended.Why.TheVariants as why
-use Rattle.talk_core.specs.Ended.{AreLives, NeedsDrain, SentWhole}
+use Rattle.talk_core.specs.Lives.{AreLives, lives_limit}
+use Rattle.talk_core.specs.Ended.{NeedsDrain, SentWhole}
 use Rattle.talk_core.specs.declared.ended.IdleBy.TheVariants.{Clock, Drain}
 use Rattle.talk_core.specs.declared.ended.Why.{Why}
 use Rattle.talk_core.specs.Stands.{hands_over, Stands}
@@ -25,7 +26,7 @@ use Rattle.conn_core.specs.declared.place.At.TheVariants as at
 use Rattle.conn_core.specs.declared.state.State.{State}
 use Rattle.conn_core.specs.declared.state.State.TheVariants as state
 use Rattle.conn_core.specs.Holds.{Kept, past, Between, Replying, Handed, Refuses, HoldsAt, StandsAt, HoldsBy}
-use Rattle.conn_core.specs.Owner.{drained, drained_from, drained_in, drained_hijacked, drained_reading}
+use Rattle.conn_core.specs.Owner.{ended_as, drained, drained_from, drained_in, drained_hijacked, drained_reading}
 use Rattle.conn_core.specs.Place.{state_at, left_at}
 use Rattle.conn_core.specs.Plain.{EndsPlainly}
 use Rattle.conn_core.specs.Rests.{GoesOn, after_of, RestsAt, Begins}
@@ -216,10 +217,10 @@ rests_told {B} {H} (at.Speaking who) intake held ring calls e told h = h
 rests_told {B} {H} at.Parting intake held ring calls e told h = h
 rests_told {B} {H} (at.Over w) intake held ring calls e told h = h
 
--- the lives, both sides and the reply that closes by draining are as before
+-- the lives, both sides, the runs and the reply that closes by draining are as before
 abbrev pub SameParts : Shown → Shown → Type 0
 SameParts old new =
-    (new.lives ≡ old.lives) × (new.local ≡ old.local) × (new.peer ≡ old.peer) × (new.ending.closing ≡ old.ending.closing)
+    (new.lives ≡ old.lives) × (new.local ≡ old.local) × (new.peer ≡ old.peer) × (new.ending.closing ≡ old.ending.closing) × (new.calls ≡ old.calls)
 
 -- so they are behind a drain
 pub drained_parts : (level : ℕ) (c : Shown) → SameParts c (drained level c)
@@ -228,37 +229,41 @@ drained_parts level c = from c.taken
     d : Shown
     d = record c { ending = record c.ending { told = level } }
 
+    full : (b : Bool) → SameParts c (if b then d else ended_as (why.Idle (Drain level)) d)
+    full true = (refl, refl, refl, refl, refl)
+    full false = (refl, refl, refl, refl, refl)
+
     reading : (o : Option ℕ) → SameParts c (drained_reading o level d)
-    reading None = (refl, refl, refl, refl)
-    reading (Some since) = (refl, refl, refl, refl)
+    reading None = full (nat_lt (length c.lives) lives_limit)
+    reading (Some since) = (refl, refl, refl, refl, refl)
 
     hijacked : (b : Bool) → SameParts c (drained_hijacked b (record d { ending = record d.ending { left = true } }))
-    hijacked true = (refl, refl, refl, refl)
-    hijacked false = (refl, refl, refl, refl)
+    hijacked true = (refl, refl, refl, refl, refl)
+    hijacked false = (refl, refl, refl, refl, refl)
 
     in_state : (x : State) → SameParts c (drained_in x level d)
     in_state state.Reading = reading c.moments.begun
-    in_state state.Ready = (refl, refl, refl, refl)
-    in_state state.Answering = (refl, refl, refl, refl)
+    in_state state.Ready = (refl, refl, refl, refl, refl)
+    in_state state.Answering = (refl, refl, refl, refl, refl)
     in_state state.Hijacked = hijacked (no_bytes c.owed)
-    in_state state.Over = (refl, refl, refl, refl)
+    in_state state.Over = (refl, refl, refl, refl, refl)
 
     from : (n : ℕ) → SameParts c (drained_from n level d)
-    from zero = (refl, refl, refl, refl)
+    from zero = (refl, refl, refl, refl, refl)
     from (suc n) = in_state c.state
 
 -- it stands for its talk over the stacks as before
 pub parts_hold : {B H : Type 0} {g : Ghosts B} (V : Voice H) (S : Stacks H) (old mid new : Inside B H g) (s : Seen) → mid ≡ old → SameParts (shows mid) (shows new)
-    → ((T : Teller H) → HoldsBy V T s mid → HoldsBy V T s new) → AreLives old.lives.items
+    → ((T : Teller H) → HoldsBy V T s mid → HoldsBy V T s new) → AreLives old.lives.items old.calls
     → HoldsBy V (tell S old.lives.items old.local old.peer old.ending.closing) s old
-    → AreLives new.lives.items × HoldsBy V (tell S new.lives.items new.local new.peer new.ending.closing) s new
+    → AreLives new.lives.items new.calls × HoldsBy V (tell S new.lives.items new.local new.peer new.ending.closing) s new
 parts_hold {B} {H} {g} V S old mid new s e same step are h =
-    let are_mid : AreLives mid.lives.items = subst (λ (x : Inside B H g). AreLives x.lives.items) (sym e) are in
+    let are_mid : AreLives mid.lives.items mid.calls = subst (λ (x : Inside B H g). AreLives x.lives.items x.calls) (sym e) are in
     let h_mid : HoldsBy V (tell S mid.lives.items mid.local mid.peer mid.ending.closing) s mid =
     subst (λ (x : Inside B H g). HoldsBy V (tell S x.lives.items x.local x.peer x.ending.closing) s x) (sym e) h in
     let stands : HoldsBy V (tell S mid.lives.items mid.local mid.peer mid.ending.closing) s new =
     step (tell S mid.lives.items mid.local mid.peer mid.ending.closing) h_mid in (
-      subst AreLives (sym same.0) are_mid,
+      subst (λ (x : List Life). AreLives x new.calls) (sym same.0) (subst (λ (n : ℕ). AreLives mid.lives.items n) (sym same.4) are_mid),
       subst (λ (x : List Life). HoldsBy V (tell S x new.local new.peer new.ending.closing) s new) (sym same.0)
           (subst (λ (x : Local). HoldsBy V (tell S mid.lives.items x new.peer new.ending.closing) s new) (sym same.1)
           (subst (λ (x : List ℕ). HoldsBy V (tell S mid.lives.items mid.local x new.ending.closing) s new) (sym same.2)

@@ -1,4 +1,6 @@
 pub mod PlaceLemmas
+pub mod PlacingLemmas
+pub mod RoomLemmas
 pub mod FeedLemmas
 pub mod HeldLemmas
 pub mod PrepareLemmas
@@ -31,6 +33,7 @@ pub mod RetellLemmas
 pub mod UnreadLemmas
 pub mod TickLemmas
 pub mod DrainLemmas
+pub mod PlacedLemmas
 pub mod StandsLemmas
 pub mod WithinLemmas
 pub mod TransferLemmas

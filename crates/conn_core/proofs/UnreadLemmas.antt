@@ -10,7 +10,6 @@ use Rattle.message_framing.specs.Request.{IsRequest, Refusal, Begun}
 use Rattle.message_framing.proofs.CallerLemmas.{wanting_nil, begins_whole}
 use Rattle.talk_core.specs.declared.ended.Life.{Life}
 use Rattle.talk_core.specs.declared.ended.Why.TheVariants as why
-use Rattle.talk_core.specs.Ended.{AreLives}
 use Rattle.talk_core.specs.Stands.{Word, asked_by, silent, replies, refuses, times_out, hands_over, Stands, ClosesAt}
 use Rattle.talk_core.specs.Tail.{Voice}
 use Rattle.talk_core.specs.Talk.{Asks, replies_to}
@@ -22,7 +21,7 @@ use Rattle.conn_core.specs.declared.place.At.{At}
 use Rattle.conn_core.specs.declared.place.At.TheVariants as at
 use Rattle.conn_core.specs.declared.state.State.TheVariants as state
 use Rattle.conn_core.specs.Holds.{Kept, kept, Between, Refuses, HoldsAt, StandsAt, HoldsBy}
-use Rattle.conn_core.specs.Owner.{IsUnread, PlacedIn}
+use Rattle.conn_core.specs.Owner.{IsUnread}
 use Rattle.conn_core.specs.Place.{state_at}
 use Rattle.conn_core.specs.Shown.{Shown, shows, owed_at}
 use Rattle.conn_core.proofs.ConnLemmas.{Part, PartOf, live_part}
@@ -150,19 +149,3 @@ untold_holds {B} {H} {g} V T s p told none live h = record {
     go (at.Speaking who) y x = absurd (run x.handed.k x.handed.count)
     go at.Parting y x = absurd (run x.handed.k x.handed.count)
     go (at.Over w) y x = absurd (y refl)
-
--- in another phase it stands for its talk over the stacks as before: nothing was run
-pub placed_holds : {B H : Type 0} {g : Ghosts B} (V : Voice H) (S : Stacks H) (old mid new : Inside B H g) (s : Seen) (phase : ℕ) → mid ≡ old
-    → IsUnread (shows mid) → PlacedIn phase (shows mid) (shows new) → ((T : Teller H) → HoldsBy V T s mid → HoldsBy V T s new) → AreLives old.lives.items
-    → HoldsBy V (tell S old.lives.items old.local old.peer old.ending.closing) s old
-    → AreLives new.lives.items × HoldsBy V (tell S new.lives.items new.local new.peer new.ending.closing) s new
-placed_holds {B} {H} {g} V S old mid new s phase e unread_is placed step are h =
-    let are_mid : AreLives mid.lives.items = subst (λ (x : Inside B H g). AreLives x.lives.items) (sym e) are in
-    let T : Teller H = tell S mid.lives.items mid.local mid.peer mid.ending.closing in
-    let U : Teller H = tell S new.lives.items new.local new.peer new.ending.closing in
-    let h_mid : HoldsBy V T s mid = subst (λ (x : Inside B H g). HoldsBy V (tell S x.lives.items x.local x.peer x.ending.closing) s x) (sym e) h in
-    let none : mid.calls ≡ 0 = (unread V T s mid unread_is.0 unread_is.1 h_mid).2 in
-    let same : new.calls ≡ mid.calls = ap (λ (x : Shown). x.calls) placed.rest in (
-      subst AreLives (sym (placed.lives are_mid)) refl,
-      retold V T U s new.peer new.at (kept new) (λ i lt r. absurd (omega (arith, lt, same, none))) (step T h_mid),
-    )

@@ -11,7 +11,8 @@ use Rattle.message_framing.specs.Request.{IsRequest, Refusal, Wanting}
 use Rattle.hijack_core.specs.Said.{GoesOnAs}
 use Rattle.reply_framing.specs.declared.types.After.TheVariants.{Hijack}
 use Rattle.reply_framing.specs.Owes.{Owes}
-use Rattle.talk_core.specs.Ended.{Past, Shows, AreLives, NeedsDrain}
+use Rattle.talk_core.specs.Ended.{Past, Shows, NeedsDrain}
+use Rattle.talk_core.specs.Lives.{AreLives}
 use Rattle.talk_core.specs.Stands.{Stands, ClosesAt, silent, replies, refuses, times_out, hands_over}
 use Rattle.talk_core.specs.Tail.{Voice, goes_on}
 use Rattle.talk_core.specs.Teller.{Stacks, Teller, tell}
@@ -147,5 +148,5 @@ HoldsWith {L} {B} {H} {g} seen V T c = HoldsBy V T (seen c.link) c.inside.value
 
 -- the same over stacks
 pub record Holds {L B H : Type 0} {g : Ghosts B} (seen : L → Seen) (V : Voice H) (S : Stacks H) (c : Conn L B H g) : Type 0 where
-  pub lives_are : AreLives c.inside.value.lives.items
+  pub lives_are : AreLives c.inside.value.lives.items c.inside.value.calls
   pub stands : HoldsWith seen V (tell S c.inside.value.lives.items c.inside.value.local c.inside.value.peer c.inside.value.ending.closing) c

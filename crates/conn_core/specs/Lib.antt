@@ -17,3 +17,4 @@ pub mod Owner
 pub mod Within
 pub mod Transfer
 pub mod Stopping
+pub mod Answered

@@ -1,15 +1,16 @@
 -- What a connection's owner does with it beside moving it on: it ends it, places it anew, tells it the time or a drain, or
 -- lends its link out.
-use Rattle.std.specs.Prelude.{◌≡◌, ◌≢◌, ℕ, ◌+◌, zero, suc, Bool, true, false, List, [], ◌∷◌, length, Option, None, Some, ◌⊎◌, ⊤}
+use Rattle.std.specs.Prelude.{◌≡◌, ◌≢◌, ℕ, ◌+◌, ◌<◌, ◌≤◌, zero, suc, nat_lt, Bool, true, false, if◌then◌else◌, List, [], ◌∷◌, length, Option, None, Some, ◌⊎◌, ⊤}
 use Rattle.rack_types.specs.declared.fault.Fault.{Fault}
 use Rattle.rack_types.specs.declared.fault.Fault.TheVariants.{T1}
 use Rattle.rack_types.specs.Limits.{stock_limits}
 use Rattle.reply_framing.specs.declared.types.After.TheVariants.{Keep, Close}
 use Rattle.reply_framing.specs.Fault.{fault_reply}
 use Rattle.talk_core.specs.declared.ended.IdleBy.TheVariants.{Clock, Drain}
+use Rattle.talk_core.specs.declared.ended.Life.{Life}
 use Rattle.talk_core.specs.declared.ended.Why.{Why}
 use Rattle.talk_core.specs.declared.ended.Why.TheVariants as why
-use Rattle.talk_core.specs.Ended.{AreLives}
+use Rattle.talk_core.specs.Lives.{lives_limit, placed_lives, StayBelow}
 use Rattle.rack_outside.specs.Link.{Seen, Tells}
 use Rattle.rack_types.specs.Request.{Parts}
 use Rattle.message_framing.specs.Request.{Wanting, Refusal}
@@ -29,6 +30,14 @@ use Rattle.conn_core.specs.Shown.{Shown}
 -- no byte was ever read, and it isn't over
 abbrev pub IsUnread : Shown → Type 0
 IsUnread c = (c.taken ≡ 0) × (c.state ≢ state.Over)
+
+-- it was read before, all that it was asked is answered, and nothing is begun
+abbrev pub IsIdle : Shown → Type 0
+IsIdle c = (c.state ≡ state.Reading) × (0 < c.taken) × (c.moments.begun ≡ None)
+
+-- it may be placed anew: nothing that was read of it is unanswered
+abbrev pub MayPlace : Shown → Type 0
+MayPlace c = IsUnread c ⊎ IsIdle c
 
 -- it ended for this why, and nothing else of it changed
 abbrev pub ended_as : Why → Shown → Shown
@@ -57,10 +66,21 @@ EndsAnyTime (why.Halted level) = level ≡ 2
 EndsAnyTime why.NoMemory = ⊤
 EndsAnyTime why.Hijacked = ⊥
 
--- its life is in this phase from now on, and it was told nothing; and nothing else of it changed
-pub record PlacedIn (phase : ℕ) (old new : Shown) : Type 0 where
-  pub lives : AreLives old.lives → new.lives ≡ record { first = 0; phase = phase } ∷ []
-  pub rest : new ≡ record old { lives = new.lives; ending = record old.ending { told = 0 } }
+-- these lives, placed in this phase, are at most 64, and none of them has a greater phase
+abbrev pub HasPlace : ℕ → ℕ → List Life → Type 0
+HasPlace phase calls lives = (length (placed_lives phase calls lives) ≤ lives_limit) × StayBelow phase (placed_lives phase calls lives)
+
+-- placed in this phase, it has at most 64 lives
+abbrev pub HasRoomFor : ℕ → Shown → Type 0
+HasRoomFor phase c = length (placed_lives phase c.calls c.lives) ≤ lives_limit
+
+-- placed in this phase, it goes back to no older generation: no life has a greater phase
+abbrev pub IsNoneAbove : ℕ → Shown → Type 0
+IsNoneAbove phase c = StayBelow phase (placed_lives phase c.calls c.lives)
+
+-- placed in this phase: its next request is answered in that phase, and it was told nothing
+abbrev pub placed : ℕ → Shown → Shown
+placed phase c = record c { lives = placed_lives phase c.calls c.lives; ending = record c.ending { told = 0 } }
 
 -- for 10,000 ms the link took nothing of what is in the ring
 abbrev pub IsStalled : ℕ → Shown → Type 0
@@ -71,8 +91,8 @@ abbrev pub IsLate : ℕ → ℕ → Shown → Type 0
 IsLate since now c = (c.state ≡ state.Reading) × (c.moments.begun ≡ Some since) × Passed since stock_limits.request_ms now
 
 -- nothing is begun, and for 20,000 ms nothing was sent
-abbrev pub IsIdle : ℕ → Shown → Type 0
-IsIdle now c = (c.state ≡ state.Reading) × (c.moments.begun ≡ None) × Passed (quiet_since c.moments) stock_limits.idle_ms now
+abbrev pub IsQuiet : ℕ → Shown → Type 0
+IsQuiet now c = (c.state ≡ state.Reading) × (c.moments.begun ≡ None) × Passed (quiet_since c.moments) stock_limits.idle_ms now
 
 -- the reply that says that a request took too long was begun, and all of it is owed
 abbrev pub late_as : ℕ → ℕ → Shown → Shown
@@ -87,17 +107,18 @@ late_as since now c = record c {
 
 -- what a tick at this moment answers, and leaves
 abbrev pub Ticks : Tick → ℕ → Shown → Shown → Type 0
-Ticks tick.Still now old new = ¬ (IsStalled now old) × ((since : ℕ) → ¬ (IsLate since now old)) × ¬ (IsIdle now old) × (new ≡ old)
+Ticks tick.Still now old new = ¬ (IsStalled now old) × ((since : ℕ) → ¬ (IsLate since now old)) × ¬ (IsQuiet now old) × (new ≡ old)
 Ticks tick.Write now old new =
     ¬ (IsStalled now old) × ((since : ℕ) × IsLate since now old × (new ≡ late_as since now old))
 Ticks tick.Over now old new =
     (IsStalled now old × (new ≡ ended_as (why.Stalled (stuck_since old.moments) now) old))
-    ⊎ (¬ (IsStalled now old) × IsIdle now old × (new ≡ ended_as (why.Idle (Clock (quiet_since old.moments) now)) old))
+    ⊎ (¬ (IsStalled now old) × IsQuiet now old × (new ≡ ended_as (why.Idle (Clock (quiet_since old.moments) now)) old))
 
 -- what a drain of this level leaves of a connection that was read, by its state: one that reads and has begun nothing
--- ends; and so does one that a hijacker has, where nothing is owed, and else behind what is owed
+-- stays, to be placed anew, where it has room for one more life, and else ends; one that a hijacker has ends where nothing
+-- is owed, and else behind what is owed
 abbrev pub drained_reading : Option ℕ → ℕ → Shown → Shown
-drained_reading None level c = ended_as (why.Idle (Drain level)) c
+drained_reading None level c = if nat_lt (length c.lives) lives_limit then c else ended_as (why.Idle (Drain level)) c
 drained_reading (Some since) level c = c
 
 abbrev pub drained_hijacked : Bool → Shown → Shown
@@ -120,12 +141,13 @@ drained_from (suc n) level c = drained_in c.state level c
 abbrev pub drained : ℕ → Shown → Shown
 drained level c = drained_from c.taken level (record c { ending = record c.ending { told = level } })
 
--- what the telling answers: the first of Over, Unread, Write and Stays that stands behind it
+-- what the telling answers: the first of Over, Unread, Idle, Write and Stays that stands behind it
 abbrev pub DrainTells : Told → Shown → Type 0
 DrainTells told.Over c = c.state ≡ state.Over
 DrainTells told.Unread c = IsUnread c
-DrainTells told.Write c = (c.state ≢ state.Over) × ¬ (IsUnread c) × IsOwing c
-DrainTells told.Stays c = (c.state ≢ state.Over) × ¬ (IsUnread c) × ¬ (IsOwing c)
+DrainTells told.Idle c = IsIdle c × (length c.lives < lives_limit)
+DrainTells told.Write c = (c.state ≢ state.Over) × ¬ (IsUnread c) × ¬ (IsIdle c) × IsOwing c
+DrainTells told.Stays c = (c.state ≢ state.Over) × ¬ (IsUnread c) × ¬ (IsIdle c) × ¬ (IsOwing c)
 
 -- where more of a request is to be read: all requests in the bytes that came were run, and a moment is kept exactly where
 -- one is begun behind them

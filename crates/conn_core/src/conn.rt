@@ -5,11 +5,12 @@ ghost use Rattle.rack_types.specs.Runner.{Becomes};
 ghost use Rattle.rack_types.specs.Limits.{stock_limits};
 ghost use Rattle.talk_core.specs.Ended.{Shows, IsEnded, StandsForTalk};
 ghost use Rattle.talk_core.specs.Teller.{Stacks, Teller, last_phase};
+ghost use Rattle.conn_core.specs.Answered.{HasAnswered};
 ghost use Rattle.conn_core.specs.Calls.{Feeds, MayFeed, Turns, TurnsRightly, Flushes};
 ghost use Rattle.conn_core.specs.Holds.{Holds, HoldsWith};
 ghost use Rattle.conn_core.specs.Keeps.{reaching};
 ghost use Rattle.conn_core.specs.Moves.{IsOwing};
-ghost use Rattle.conn_core.specs.Owner.{BeginsRightly};
+ghost use Rattle.conn_core.specs.Owner.{BeginsRightly, MayPlace};
 ghost use Rattle.conn_core.specs.Plain.{IsPlainEnd, EndsOver};
 ghost use Rattle.conn_core.specs.Ran.{Ran};
 ghost use Rattle.conn_core.specs.Shown.{shown, number_of, key_of, link_of};
@@ -32,7 +33,7 @@ use talk_core::{Ended, Life, Why};
 // The bytes of the output ring.
 const RING: usize = 65_536;
 // How many lives there is room for.
-const LIVES: usize = 64;
+pub(crate) const LIVES: usize = 64;
 
 /// A connection, from its opening to its end. It is spent by `finish`.
 ///
@@ -319,12 +320,14 @@ impl<L: Link, B: Body, H: Hijack + Drop> Conn<L, B, H> {
     /// Laws: while it is carried that it stands for its talk, a connection that isn't over does. Where more of a
     /// request is to be read, all requests in the bytes that came were run, and a moment is kept exactly where one is
     /// begun behind them; where a request stands, those before it were run, and the bytes held are all that stand behind
-    /// it; and where a refusal stands, all before it were run.
+    /// it; and where a refusal stands, all before it were run. One that may be placed anew has answered all that it was
+    /// asked.
     pub fn stands(&self)
         ensures talk { (S : Stacks H) → (shown self.now).state ≢ State.Over → Holds L.seen (record { says = H.says; ends = H.ends }) S self.now
             → StandsForTalk (L.seen (link_of self.now)) (record { says = H.says; ends = H.ends }) S (shown self.now).local (shown self.now).peer (shown self.now).lives (shown self.now).calls
             (shown self.now).ending.closing (is_some (shown self.now).ending.late) }
         ensures begun { (T : Teller H) → HoldsWith L.seen (record { says = H.says; ends = H.ends }) T self.now → BeginsRightly (L.seen (link_of self.now)) (shown self.now) }
+        ensures answered { (T : Teller H) → MayPlace (shown self.now) → HoldsWith L.seen (record { says = H.says; ends = H.ends }) T self.now → HasAnswered (L.seen (link_of self.now)) T (shown self.now) }
     {
         let _state = self.state();
     }

@@ -1,5 +1,6 @@
 // All of a connection but its link.
-ghost use Rattle.std.specs.Prelude.{◌≡◌};
+ghost use Rattle.std.specs.Prelude.{◌≡◌, ◌≤◌, vec_capacity};
+ghost use Rattle.talk_core.specs.Lives.{lives_limit};
 ghost use Rattle.conn_core.specs.Rests.{RestsAt, RestsAt-prop, Begins, Begins-prop};
 
 use crate::held::Held;
@@ -31,6 +32,7 @@ pub(crate) struct Inside<B: Body, H> {
     pub(crate) moments: Moments,
     pub(crate) at: At<B, H>,
     pub(crate) ghost room: { ring.capacity ≡ 65536 },
+    pub(crate) ghost reserved: { lives_limit ≤ vec_capacity lives },
     pub(crate) ghost rests: { RestsAt at intake held ring.items calls ending } by { RestsAt-prop at intake held ring.items calls ending },
     pub(crate) ghost begins: { Begins at intake moments.begun } by { Begins-prop at intake moments.begun },
 }

@@ -1,18 +1,19 @@
 // What its owner does with a connection beside moving it on: it ends it, places it anew, tells it the time or a drain, or
 // lends its link out.
-ghost use Rattle.std.specs.Prelude.{◌≡◌, ◌≢◌, ◌<◌, ◌≤◌, ◌↔◌, [], ◌∷◌, IsTrue, false, Some};
+ghost use Rattle.std.specs.Prelude.{◌≡◌, ◌≢◌, ◌<◌, ◌≤◌, ◌↔◌, IsTrue, false, Some, length, nat_le, vec_capacity};
+ghost use Rattle.std.specs.List.{list_all};
 ghost use Rattle.rack_outside.specs.Link.{Seen, IsTouched};
 ghost use Rattle.rack_outside.specs.Told.{Rose};
-ghost use Rattle.talk_core.specs.Ended.{AreLives};
+ghost use Rattle.talk_core.specs.Lives.{lives_limit, placed_lives};
 ghost use Rattle.talk_core.specs.Tail.{Voice};
 ghost use Rattle.talk_core.specs.Teller.{Stacks, Teller, last_phase};
 ghost use Rattle.conn_core.specs.Holds.{Holds, HoldsBy, HoldsWith};
 ghost use Rattle.conn_core.specs.Keeps.{reaching};
 ghost use Rattle.conn_core.specs.Moments.{Passed};
-ghost use Rattle.conn_core.specs.Owner.{ended_as, EndsAnyTime, IsUnread, PlacedIn, Ticks, drained, drained_in, DrainTells};
+ghost use Rattle.conn_core.specs.Owner.{ended_as, EndsAnyTime, IsUnread, IsIdle, MayPlace, HasPlace, HasRoomFor, IsNoneAbove, placed, Ticks, drained, drained_in, DrainTells};
 ghost use Rattle.conn_core.specs.Shown.{shows, shown, number_of, key_of, link_of};
 
-use crate::conn::Conn;
+use crate::conn::{Conn, LIVES};
 use crate::hijack::let_leave;
 use crate::inside::Inside;
 use crate::moments::Late;
@@ -32,14 +33,53 @@ const REQUEST: u64 = 30_000;
 
 const WRITE: u64 = 10_000;
 
-// Places the last life in this phase.
-fn put_phase(lives: &mut Vec<Life>, phase: u32)
-    ensures { AreLives lives.old.items → lives.new.items ≡ record { first = 0; phase = phase } ∷ [] }
+// Places a connection with these lives in this phase, behind so many runs. It takes no memory.
+fn put_phase(lives: &mut Vec<Life>, phase: u32, calls: u64)
+    requires room { length (placed_lives phase calls lives.old.items) ≤ lives_limit }
+    requires reserved { lives_limit ≤ vec_capacity lives.old }
+    ensures placed { lives.new.items ≡ placed_lives phase calls lives.old.items }
+    ensures reserved { lives_limit ≤ vec_capacity lives.new }
 {
     let count = lives.len();
-    if count > 0 {
-        lives[count - 1].phase = phase;
+    if count == 0 {
+        return;
     }
+    let last = count - 1;
+    if lives[last].phase == phase {
+        return;
+    }
+    if lives[last].first == calls {
+        lives[last].phase = phase;
+    } else {
+        let life = Life {
+            first: calls,
+            phase,
+        };
+        lives.push(life).unwrap();
+    }
+}
+
+// Whether none of these lives has a greater phase.
+fn stay_below(lives: &[Life], phase: u32) -> bool
+    ensures { result ≡ list_all (λ life. nat_le life.phase phase) lives.now }
+{
+    lives.iter().all(|life| life.phase <= phase)
+}
+
+// Whether a connection with these lives may be placed in this phase, behind so many runs.
+fn has_place(lives: &[Life], phase: u32, calls: u64) -> bool
+    ensures { IsTrue result ↔ HasPlace phase calls lives.now }
+{
+    let Some((last, front)) = lives.split_last() else {
+        return true;
+    };
+    if !stay_below(front, phase) {
+        return false;
+    }
+    if last.phase == phase || last.first == calls {
+        return lives.len() <= LIVES;
+    }
+    last.phase <= phase && lives.len() < LIVES
 }
 
 // Whether so long passed.
@@ -70,14 +110,35 @@ impl<B: Body, H: Drop> Inside<B, H> {
         put(&mut self.at, At::Over(Why::Unread { level }));
     }
 
-    // Places it in another phase.
-    fn place(&mut self, phase: u32)
-        requires unread { IsUnread (shows self.old) }
+    // Ends it idle, by draining of this level.
+    fn end_idle(&mut self, level: u64)
+        requires idle { IsIdle (shows self.old) }
+        requires level { 1 ≤ level }
         ensures holds { (V : Voice H) (T : Teller H) (s : Seen) → HoldsBy V T s self.old → HoldsBy V T s self.new }
-        ensures placed { PlacedIn phase (shows self.old) (shows self.new) }
+        ensures ends { shows self.new ≡ ended_as (Why.Idle (IdleBy.Drain level)) (shows self.old) }
     {
-        put_phase(&mut self.lives, phase);
+        put(&mut self.at, At::Over(Why::Idle(IdleBy::Drain { level })));
+    }
+
+    // Places it in this phase.
+    fn place(&mut self, phase: u32)
+        requires may { MayPlace (shows self.old) }
+        requires room { HasRoomFor phase (shows self.old) }
+        ensures holds { (V : Voice H) (T : Teller H) (s : Seen) → HoldsBy V T s self.old → HoldsBy V T s self.new }
+        ensures placed { shows self.new ≡ placed phase (shows self.old) }
+    {
+        put_phase(&mut self.lives, phase, self.calls);
         self.ending.told = 0;
+    }
+
+    // Whether it was read before, and has begun nothing.
+    fn is_idle(&self) -> bool
+        ensures { IsTrue result ↔ IsIdle (shows self.now) }
+    {
+        match self.at {
+            At::Reading => self.taken > 0 && self.moments.begun.is_none(),
+            _ => false,
+        }
     }
 
     // Compares a moment with those that are kept.
@@ -155,7 +216,8 @@ impl<B: Body, H: Hijack + Drop> Inside<B, H> {
         self.told()
     }
 
-    // Ends it where it has begun nothing, or a hijacker has it, by draining of this level, which was told.
+    // Ends it where it has begun nothing and has no room for one more life, or where a hijacker has it, by draining of
+    // this level, which was told.
     fn drain(&mut self, level: u64)
         requires level { (1 ≤ level) × (self.old.ending.told ≡ level) }
         requires read { 0 < self.old.taken }
@@ -166,7 +228,9 @@ impl<B: Body, H: Hijack + Drop> Inside<B, H> {
         match state_at(&self.at) {
             State::Reading => match self.moments.begun {
                 Some(_) => {}
-                None => put(&mut self.at, At::Over(Why::Idle(IdleBy::Drain { level }))),
+                None => if self.lives.len() >= LIVES {
+                    put(&mut self.at, At::Over(Why::Idle(IdleBy::Drain { level })))
+                },
             },
             State::Hijacked => {
                 self.ending.left = true;
@@ -179,12 +243,15 @@ impl<B: Body, H: Hijack + Drop> Inside<B, H> {
 
     // What the telling of a drain left.
     fn told(&self) -> Told
+        requires room { IsIdle (shows self.now) → length self.now.lives.items < lives_limit }
         ensures { DrainTells result (shows self.now) }
     {
         if is_over(&self.at) {
             Told::Over
         } else if self.taken == 0 {
             Told::Unread
+        } else if self.is_idle() {
+            Told::Idle
         } else if is_saying(&self.at) {
             Told::Write
         } else {
@@ -220,14 +287,35 @@ impl<L: Link, B: Body, H: Hijack + Drop> Conn<L, B, H> {
         self.inside.taken == 0 && !is_over(&self.inside.at)
     }
 
+    /// Whether it was read before, all that it was asked is answered, and nothing is begun.
+    pub fn idle(&self) -> bool
+        ensures { IsTrue result ↔ IsIdle (shown self.now) }
+    {
+        self.inside.is_idle()
+    }
+
+    /// Whether it may be placed anew, in this phase.
+    pub fn may_place(&self, phase: u32) -> bool
+        ensures { IsTrue result ↔ (MayPlace (shown self.now) × HasRoomFor phase (shown self.now) × IsNoneAbove phase (shown self.now)) }
+    {
+        (self.unread() || self.inside.is_idle())
+            && has_place(&self.inside.lives, phase, self.inside.calls)
+    }
+
     /// Places it anew, in this phase: its next request is answered by the stack of that phase, and it was told no
-    /// drain. It needs that no byte was ever read. It takes no memory.
+    /// drain. It takes no memory.
+    ///
+    /// It needs that no byte was ever read, or that it is idle; that it has at most 64 lives then; and that none of them
+    /// has a greater phase. Where its last life has the phase already, no life changes. Where nothing was run in that
+    /// life, it gets the phase. Else a life is appended, which begins at its next request.
     pub fn place(&mut self, phase: u32)
-        requires unread { IsUnread (shown self.old) }
+        requires may { MayPlace (shown self.old) }
+        requires room { HasRoomFor phase (shown self.old) }
+        requires none_above { IsNoneAbove phase (shown self.old) }
         ensures number { number_of self.new ≡ number_of self.old }
         ensures key { key_of self.new ≡ key_of self.old }
         ensures link { link_of self.new ≡ link_of self.old }
-        ensures placed { PlacedIn phase (shown self.old) (shown self.new) }
+        ensures placed { shown self.new ≡ placed phase (shown self.old) }
         ensures any { (V : Voice H) (T : Teller H) → HoldsWith L.seen V T self.old → HoldsWith L.seen V T self.new }
         ensures holds { (V : Voice H) (S : Stacks H) → Holds L.seen V S self.old → Holds L.seen V S self.new }
     {
@@ -261,8 +349,8 @@ impl<L: Link, B: Body, H: Hijack + Drop> Conn<L, B, H> {
     /// Tells it that the server drains, at this level, which is at least 1. It acts by where the connection is now, and
     /// may be told again. It takes no memory.
     ///
-    /// One of which no byte was ever read stays as it is, for its owner to place it anew or to end it unread. One that
-    /// reads and has begun nothing ends idle. One that a hijacker has ends, behind what is owed: the hijacker is told
+    /// One of which no byte was ever read stays as it is, for its owner to place it anew or to end it unread. So does one
+    /// that was read and has begun nothing, where it has fewer than 64 lives; else it ends idle. One that a hijacker has ends, behind what is owed: the hijacker is told
     /// to leave. Any other answers what it was asked; the reply to a request that is run from now on closes it, unless
     /// bytes are held behind that request.
     pub fn tell_drain(&mut self, level: u64) -> Told
@@ -293,6 +381,21 @@ impl<L: Link, B: Body, H: Hijack + Drop> Conn<L, B, H> {
     {
         let inside: &mut Inside<B, H> = &mut self.inside;
         inside.end_unread(level);
+    }
+
+    /// Ends it at once, where it has to be let go idle, by draining of this level. It needs that it was read before and
+    /// has begun nothing, and a level of at least 1. It takes no memory.
+    pub fn end_idle(&mut self, level: u64)
+        requires idle { IsIdle (shown self.old) }
+        requires level { 1 ≤ level }
+        ensures number { number_of self.new ≡ number_of self.old }
+        ensures link { link_of self.new ≡ link_of self.old }
+        ensures ends { shown self.new ≡ ended_as (Why.Idle (IdleBy.Drain level)) (shown self.old) }
+        ensures any { (V : Voice H) (T : Teller H) → HoldsWith L.seen V T self.old → HoldsWith L.seen V T self.new }
+        ensures holds { (V : Voice H) (S : Stacks H) → Holds L.seen V S self.old → Holds L.seen V S self.new }
+    {
+        let inside: &mut Inside<B, H> = &mut self.inside;
+        inside.end_idle(level);
     }
 
     /// Ends it at once, whatever it is doing, for a halt of this level, which is 2. One that is over stays as

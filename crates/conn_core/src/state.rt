@@ -49,6 +49,8 @@ pub enum Told {
     Stays,
     /// No byte of it was ever read: it may be placed anew, or ended unread.
     Unread,
+    /// It was read, has answered all that it was asked, and nothing is begun: it may be placed anew, or ended idle.
+    Idle,
     /// Bytes are owed: it is to be flushed.
     Write,
     /// It ended: it is to be finished.

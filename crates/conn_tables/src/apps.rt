@@ -18,6 +18,8 @@ pub(crate) enum App {
     Hands,
     /// The first request hands the connection to a hijacker, behind the head of a reply.
     Parts,
+    /// Each request is answered with the name of the connection's phase: old for the first, and else new.
+    Names,
 }
 
 /// Answers a request with its body.
@@ -42,6 +44,39 @@ impl Runner<Plain, StockHijack> for Echoes {
         self.runs += 1;
         let mut pieces = Vec::with_capacity(self.alloc, 1)?;
         pieces.push(Bytes::new(Vec::from_slice(self.alloc, env.input().all())?))?;
+        Ok(Answer::Reply {
+            status: 200,
+            headers: Headers::new(self.alloc),
+            body: Plain::new(pieces, false, true, Kind::Enumerable),
+            part: None,
+        })
+    }
+}
+
+/// Answers a request with a name.
+#[derive(Drop)]
+pub(crate) struct Names {
+    pub(crate) alloc: Global,
+    pub(crate) name: &'static str,
+    pub(crate) runs: u64,
+}
+
+impl Runner<Plain, StockHijack> for Names {
+    ghost runs = { λ r. r.runs };
+
+    ghost answer = { λ r ps input. Reply 200 [] (plain_content (string_bytes r.name ∷ []) false true Enumerable) None };
+
+    ghost steady = { true };
+
+    ghost answered = { λ r. None };
+
+    ghost asked = { λ r. None };
+
+    fn run(&mut self, env: &mut Env) -> Result<Answer<Plain, StockHijack>, NoMemory> {
+        let _env = env;
+        self.runs += 1;
+        let mut pieces = Vec::with_capacity(self.alloc, 1)?;
+        pieces.push(Bytes::new(Vec::from_slice(self.alloc, self.name.as_bytes())?))?;
         Ok(Answer::Reply {
             status: 200,
             headers: Headers::new(self.alloc),

@@ -2,7 +2,8 @@
 use crate::apps::App;
 use crate::rows::{Row, wrong_at};
 use crate::steps::Step::{
-    Drain, EndUnread, Ends, Feed, Flush, Gives, Is, Phase, Place, Takes, Ticks, Turn, Unread,
+    Drain, EndIdle, EndUnread, Ends, Feed, Flush, Gives, Is, Phase, Place, Takes, Ticks, Turn,
+    Unread,
 };
 use crate::texts::{
     CLOSED, GET, HALF, KEPT, LAST, LATE, POST, POST_CLOSED, REFUSAL, REFUSED, REST,
@@ -135,7 +136,8 @@ const UNREAD: &[Row] = &[
             Gives("\r\n"),
             Feed(200, Next::More),
             Unread(false),
-            Drain(1, Told::Over),
+            Drain(1, Told::Idle),
+            EndIdle(1),
         ],
         sent: &[],
         why: Why::Idle(IdleBy::Drain { level: 1 }),
@@ -261,7 +263,8 @@ const BEGUN: &[Row] = &[
             Gives("\n"),
             Feed(300, Next::More),
             Is(State::Reading),
-            Drain(1, Told::Over),
+            Drain(1, Told::Idle),
+            EndIdle(1),
         ],
         sent: &[],
         why: Why::Idle(IdleBy::Drain { level: 1 }),

@@ -1,7 +1,7 @@
 // What the telling of a drain leaves, from the run of a request on.
 use crate::apps::App;
 use crate::rows::{Row, wrong_at};
-use crate::steps::Step::{Drain, Feed, Flush, Gives, Is, Owes, Takes, Turn};
+use crate::steps::Step::{Drain, EndIdle, Feed, Flush, Gives, Is, Owes, Takes, Turn};
 use crate::texts::{
     CLOSED, GET, KEPT, LAST, ONE_AND_HALF, ONE_AND_LINE, POST, POST_CLOSED, POST_KEPT, REFUSAL,
     REFUSED, REST, TWO,
@@ -24,7 +24,8 @@ const ANSWERING: &[Row] = &[
             Takes(1_000),
             Flush(400, Next::More),
             Is(State::Reading),
-            Drain(1, Told::Over),
+            Drain(1, Told::Idle),
+            EndIdle(1),
         ],
         sent: &[KEPT],
         why: Why::Idle(IdleBy::Drain { level: 1 }),
@@ -44,7 +45,8 @@ const ANSWERING: &[Row] = &[
             Takes(1_000),
             Flush(400, Next::More),
             Is(State::Reading),
-            Drain(2, Told::Over),
+            Drain(2, Told::Idle),
+            EndIdle(2),
         ],
         sent: &[KEPT],
         why: Why::Idle(IdleBy::Drain { level: 2 }),
@@ -113,7 +115,8 @@ const ANSWERING: &[Row] = &[
             Feed(200, Next::Ready),
             Turn(300, Next::More),
             Is(State::Reading),
-            Drain(1, Told::Over),
+            Drain(1, Told::Idle),
+            EndIdle(1),
             Is(State::Over),
         ],
         sent: &[KEPT],
@@ -128,7 +131,8 @@ const ANSWERING: &[Row] = &[
             Gives(TWO),
             Feed(200, Next::Ready),
             Turn(300, Next::More),
-            Drain(2, Told::Over),
+            Drain(2, Told::Idle),
+            EndIdle(2),
         ],
         sent: &[KEPT, POST_KEPT],
         why: Why::Idle(IdleBy::Drain { level: 2 }),
@@ -230,7 +234,8 @@ const PAIR: &[Row] = &[
             Takes(1_000),
             Flush(400, Next::More),
             Is(State::Reading),
-            Drain(1, Told::Over),
+            Drain(1, Told::Idle),
+            EndIdle(1),
         ],
         sent: &[KEPT, POST_KEPT],
         why: Why::Idle(IdleBy::Drain { level: 1 }),
@@ -265,7 +270,8 @@ const PAIR: &[Row] = &[
             Drain(1, Told::Stays),
             Turn(300, Next::More),
             Is(State::Reading),
-            Drain(1, Told::Over),
+            Drain(1, Told::Idle),
+            EndIdle(1),
         ],
         sent: &[KEPT],
         why: Why::Idle(IdleBy::Drain { level: 1 }),

@@ -15,6 +15,8 @@ mod drains_hijacked;
 #[cfg(test)]
 mod fails;
 #[cfg(test)]
+mod generations;
+#[cfg(test)]
 mod halts;
 #[cfg(test)]
 mod idle;

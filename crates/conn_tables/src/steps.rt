@@ -2,7 +2,7 @@
 ghost use Rattle.std.specs.Prelude.{◌≡◌};
 ghost use Rattle.conn_core.specs.Shown.{shown};
 
-use crate::apps::{App, Echoes, Hands, Parts};
+use crate::apps::{App, Echoes, Hands, Names, Parts};
 use crate::peers::Peers;
 use conn_core::{Conn, Next, State, Tick, Told};
 use hijack_core::StockHijack;
@@ -30,6 +30,7 @@ pub(crate) enum Step {
     Drain(u64, Told),
     Place(u32),
     EndUnread(u64),
+    EndIdle(u64),
     Halt,
     LackMemory,
     /// Where it is.
@@ -38,8 +39,11 @@ pub(crate) enum Step {
     Moment(u64),
     /// The phase of its life.
     Phase(u32),
-    /// Whether it may be placed.
+    /// Whether no byte was ever read, and whether it is idle.
     Unread(bool),
+    Idle(bool),
+    /// Whether it may be placed in this phase.
+    Fits(u32, bool),
     /// Whether bytes are owed.
     Owes(bool),
 }
@@ -59,6 +63,7 @@ pub(crate) fn goes(alloc: Global, app: App, conn: &mut MemConn, step: Step) -> b
         Step::Drain(level, told) => drain(conn, level) == Some(told),
         Step::Place(phase) => place(conn, phase),
         Step::EndUnread(level) => end_unread(conn, level),
+        Step::EndIdle(level) => end_idle(conn, level),
         Step::Halt => {
             conn.halt(2);
             true
@@ -68,6 +73,8 @@ pub(crate) fn goes(alloc: Global, app: App, conn: &mut MemConn, step: Step) -> b
         Step::Moment(moment) => conn.moment() == moment,
         Step::Phase(phase) => conn.phase() == phase,
         Step::Unread(unread) => conn.unread() == unread,
+        Step::Idle(idle) => conn.idle() == idle,
+        Step::Fits(phase, fits) => conn.may_place(phase) == fits,
         Step::Owes(owes) => conn.wants_write() == owes,
     }
 }
@@ -105,6 +112,17 @@ fn answer(alloc: Global, app: App, conn: &mut MemConn, now: u64) -> Next
         App::Echoes => conn.turn(&mut Echoes { alloc, runs: 0 }, now),
         App::Hands => conn.turn(&mut Hands { alloc, runs: 0 }, now),
         App::Parts => conn.turn(&mut Parts { alloc, runs: 0 }, now),
+        App::Names => {
+            let name = if conn.phase() == 0 { "old" } else { "new" };
+            conn.turn(
+                &mut Names {
+                    alloc,
+                    name,
+                    runs: 0,
+                },
+                now,
+            )
+        }
     }
 }
 
@@ -132,17 +150,25 @@ fn drain(conn: &mut MemConn, level: u64) -> Option<Told> {
 }
 
 fn place(conn: &mut MemConn, phase: u32) -> bool {
-    let unread = conn.unread();
-    if unread {
+    let may = conn.may_place(phase);
+    if may {
         conn.place(phase);
     }
-    unread
+    may
 }
 
 fn end_unread(conn: &mut MemConn, level: u64) -> bool {
     let may = conn.unread() && level > 0;
     if may {
         conn.end_unread(level);
+    }
+    may
+}
+
+fn end_idle(conn: &mut MemConn, level: u64) -> bool {
+    let may = conn.idle() && level > 0;
+    if may {
+        conn.end_idle(level);
     }
     may
 }

@@ -9,7 +9,7 @@ pub use Rattle.talk_core.proofs.CompareLemmas.{SameFront, front_unique, GoesFurt
 pub use Rattle.talk_core.proofs.LawLemmas.{stays, keep_nth, partly_stands}
 pub use Rattle.talk_core.proofs.ChunkedLemmas.{read_again}
 pub use Rattle.talk_core.proofs.ExistenceLemmas.{some_talk}
-pub use Rattle.talk_core.proofs.LivesLemmas.{lives_later, phases_up, phase_below, phase_behind, placed_agrees, placed_phase, placed_are, placed_longer, placed_stay, one_life}
+pub use Rattle.talk_core.proofs.LivesLemmas.{lives_later, phases_up, phase_below, phase_behind, placed_agrees, placed_phase, placed_are, placed_longer, placed_stay, one_life, unused_placed}
 pub use Rattle.talk_core.proofs.RunLemmas.{told_at, agrees_same, agrees_less, agrees_trans, told_before, told_here}
 pub use Rattle.talk_core.proofs.ShowsLemmas.{tells_appended, tells_marked, shows_given, shows_unread, shows_over, shows_sent, shows_unsent, shows_bytes, shows_not_yet, shows_end, shows_failed, shows_took, shows_waits, shows_broken, shows_no_memory}
 pub use Rattle.talk_core.proofs.CountLemmas.{counted_next, counted_more, lacks_some, taken_more}

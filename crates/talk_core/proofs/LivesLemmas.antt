@@ -1,6 +1,6 @@
 -- The lives of a connection, as requests are run and as it is placed.
 use Rattle.std.specs.Prelude.{⊤}
-use Rattle.std.proofs.Common.{◌≡◌, ◌≢◌, ℕ, suc, ◌<◌, ◌≤◌, ◌==◌, nat_le, Bool, true, false, if◌then◌else◌, List, [], ◌∷◌, length, filter, refl, ap, sym, ◌∙◌, arith}
+use Rattle.std.proofs.Common.{◌≡◌, ◌≢◌, ℕ, suc, ◌<◌, ◌≤◌, ◌==◌, nat_le, Bool, true, false, if◌then◌else◌, List, [], ◌∷◌, length, filter, refl, ap, sym, subst, ◌∙◌, arith}
 use Rattle.std.proofs.lemmas.Bool.Decides.{nat_tests}
 use Rattle.talk_core.specs.declared.ended.Life.{Life}
 use Rattle.talk_core.specs.Lives.{lives_limit, GoOnFrom, AreLives, placed_by, placed_lives, StayBelow}
@@ -195,3 +195,26 @@ pub one_life : (lives : List Life) → AreLives lives 0 → length lives ≡ 1
 one_life [] h = absurd h
 one_life (life ∷ []) h = refl
 one_life (life ∷ next ∷ lives) h = absurd (omega (arith, h.2.0, h.2.1))
+
+-- so it may be placed in any phase
+unused_stays : (same : Bool) (phase : ℕ) (life : Life) → (same ≡ true → life.phase ≡ phase) → StayBelow phase (placed_by same true phase 0 life)
+unused_stays true phase life is = let e : life.phase ≡ phase = is refl in let le : life.phase ≤ phase = omega (arith, e) in (le, tt)
+unused_stays false phase life is = let le : phase ≤ phase = omega arith in (le, tt)
+
+unused_one : (same : Bool) (phase : ℕ) (life : Life) → length (placed_by same true phase 0 life) ≤ lives_limit
+unused_one true phase life = omega arith
+unused_one false phase life = omega arith
+
+pub unused_placed : (lives : List Life) (phase calls : ℕ) → calls ≡ 0 → AreLives lives calls
+    → (length (placed_lives phase calls lives) ≤ lives_limit) × StayBelow phase (placed_lives phase calls lives)
+unused_placed lives phase calls none h =
+    subst (λ (n : ℕ). (length (placed_lives phase n lives) ≤ lives_limit) × StayBelow phase (placed_lives phase n lives)) (sym none)
+    (go lives (subst (λ (n : ℕ). AreLives lives n) none h))
+  where
+    go : (lives : List Life) → AreLives lives 0 → (length (placed_lives phase 0 lives) ≤ lives_limit) × StayBelow phase (placed_lives phase 0 lives)
+    go [] h = absurd h
+    go (life ∷ []) h =
+        let unused : (life.first == 0) ≡ true = grind (arith, nat_tests, h.0) in
+        subst (λ (b : Bool). (length (placed_by (life.phase == phase) b phase 0 life) ≤ lives_limit) × StayBelow phase (placed_by (life.phase == phase) b phase 0 life))
+        (sym unused) (unused_one (life.phase == phase) phase life, unused_stays (life.phase == phase) phase life (λ yes. grind (arith, nat_tests, yes)))
+    go (life ∷ next ∷ lives) h = absurd (omega (arith, h.2.0, h.2.1))

@@ -1,4 +1,5 @@
 use Rattle.conn_core.proofs.ConnLemmas.{live_stands}
+use Rattle.conn_core.proofs.PlacedLemmas.{has_answered}
 use Rattle.conn_core.proofs.StandsLemmas.{begins_rightly}
 use Rattle.conn_core.proofs.conn.Conn.stands.Goals as goal
 
@@ -9,3 +10,7 @@ returns-clause-talk g c = λ S live h.
 pub returns-clause-begun : goal.returns-clause-begun
 returns-clause-begun g c = λ T h.
     begins_rightly (record { says = g.H.Hijack.says; ends = g.H.Hijack.ends }) T (g.L.Link.seen c.args.self.now.link) c.args.self.now.inside.value h
+
+pub returns-clause-answered : goal.returns-clause-answered
+returns-clause-answered g c = λ T may h.
+    has_answered (record { says = g.H.Hijack.says; ends = g.H.Hijack.ends }) T (g.L.Link.seen c.args.self.now.link) c.args.self.now.inside.value may h

@@ -1,3 +1,4 @@
+use Rattle.std.proofs.Common.{◌≤◌, arith}
 use Rattle.talk_core.specs.Tail.{Voice}
 use Rattle.talk_core.specs.Teller.{Teller}
 use Rattle.conn_core.specs.Holds.{HoldsBy}
@@ -10,9 +11,11 @@ use Rattle.conn_core.proofs.conn.Conn.turn.Goals as goal
 pub returns-clause-holds : goal.returns-clause-holds
 returns-clause-holds g c = λ S steady same h.
     let moved = c.turn.ensures.turns.moved in
+    let runs = c.turn.ensures.turns.calls in
+    let later : c.deref_mut-inside.result.now.calls ≤ c.turn.new.self.calls = omega (arith, runs) in
     let both = turn_at (record { says = g.H.Hijack.says; ends = g.H.Hijack.ends }) S c.args.self.now.inside.value c.deref_mut-inside.result.now
     c.reach.new.self c.turn.new.self (g.L.Link.seen c.args.self.now.link) (g.L.Link.seen c.turn.new.link) (g.R.Runner.answer c.args.runner.now)
-    c.deref_mut-inside.ensures.value moved.peer moved.local moved.lives c.turn.ensures.turns.drains h.lives_are same (c.turn.ensures.holds steady) h.stands in
+    c.deref_mut-inside.ensures.value moved.peer moved.local moved.lives c.turn.ensures.turns.drains later h.lives_are same (c.turn.ensures.holds steady) h.stands in
     record { lives_are = both.0; stands = both.1 }
 
 pub returns-clause-any : goal.returns-clause-any

@@ -40,6 +40,7 @@ invariant_of-self g c =
     let m : Ending = record p.ending { closing = c.closing-self.result } in
     let is = run_ending p.ending p.held p.calls c.drains-drains.result c.closing-self.result c.drains-drains.ensures c.closing-self.ensures in
     record {
+      reserved = c.args.self.now.reserved;
       room = c.hand_over-at.ensures.room ∙ p.room;
       rests = subst (λ (a : At g.row.B.Denot g.row.H.Denot). RestsAt a c.prepare.new.intake c.hand_over-at.new.held c.hand_over-at.new.ring.items (p.calls + 1) m)
           (sym c.put.ensures)

@@ -13,8 +13,8 @@ use Rattle.conn_core.proofs.DrainLemmas.{left_holds, left_rests, left_begins}
 use Rattle.conn_core.proofs.PlaceLemmas.{stands_place}
 use Rattle.conn_core.proofs.inside.Inside.drain.Goals as goal
 
-pub returns-in-None-clause-holds : goal.returns-in-None-clause-holds
-returns-in-None-clause-holds g c = λ T s h.
+pub returns-then-len-ge-LIVES-clause-holds : goal.returns-then-len-ge-LIVES-clause-holds
+returns-then-len-ge-LIVES-clause-holds g c = λ T s h.
     let V : Voice g.row.H.Denot = record { says = g.H.Hijack.says; ends = g.H.Hijack.ends } in
     let p = c.args.self.now in
     stands_place (at.Over (why.Idle (Drain c.args.level))) c.put.new.at V T s p.peer _ (sym c.put.ensures)
@@ -29,6 +29,7 @@ invariant_of-self-in-Hijacked g c =
     c.put-in-Hijacked.ensures ∙ c.let_leave-at.ensures ∙ ap (λ (a : At g.row.B.Denot g.row.H.Denot). left_at a) c.replace.ensures.value in
     record {
       room = p.room;
+      reserved = p.reserved;
       rests = subst (λ (a : At g.row.B.Denot g.row.H.Denot). RestsAt a p.intake p.held p.ring.items p.calls (record p.ending { left = true })) (sym is)
           (left_rests p.at p.intake p.held p.ring.items p.calls p.ending (record p.ending { left = true }) held p.rests);
       begins = subst (λ (a : At g.row.B.Denot g.row.H.Denot). Begins a p.intake p.moments.begun) (sym is) (left_begins p.at p.intake p.moments.begun held);

@@ -16,6 +16,7 @@ invariant_of-self g c =
     let x : Buffer ℕ = p.ring in
     let y : Buffer ℕ = c.fill.new.ring in
     record {
+      reserved = c.args.self.now.reserved;
       room = fills_room p.at c.fill.new.at x y c.fill.ensures c.requires ∙ p.room;
       rests = fills_rest p.at c.fill.new.at x y p.intake p.held p.calls p.ending c.fill.ensures c.requires p.rests;
       begins = begins_filled p.at c.fill.new.at x y p.intake p.moments.begun c.fill.ensures c.requires;

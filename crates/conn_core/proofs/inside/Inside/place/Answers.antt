@@ -1,11 +1,16 @@
 use Rattle.conn_core.proofs.DrainLemmas.{rests_told}
-use Rattle.conn_core.proofs.UnreadLemmas.{untold_holds}
+use Rattle.conn_core.proofs.PlacedLemmas.{untold_placed}
 use Rattle.conn_core.proofs.inside.Inside.place.Goals as goal
 
 pub invariant_of-self : goal.invariant_of-self
 invariant_of-self g c =
     let p = c.args.self.now in
-    record { room = p.room; rests = rests_told p.at p.intake p.held p.ring.items p.calls p.ending 0 p.rests; begins = p.begins }
+    record {
+      room = p.room;
+      reserved = c.put_phase.ensures.reserved;
+      rests = rests_told p.at p.intake p.held p.ring.items p.calls p.ending 0 p.rests;
+      begins = p.begins;
+    }
 
 pub returns-clause-holds : goal.returns-clause-holds
-returns-clause-holds g c = λ V T s h. untold_holds V T s c.args.self.now 0 c.requires.unread.0 c.requires.unread.1 h
+returns-clause-holds g c = λ V T s h. untold_placed V T s c.args.self.now 0 c.requires.may h

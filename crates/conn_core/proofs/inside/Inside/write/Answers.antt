@@ -287,6 +287,7 @@ invariant_of-self g c =
     subst (λ (b : At g.row.B.Denot g.row.H.Denot). CompletesTo p.ending.late V p.at p.intake p.held b c.complete-at.new.intake left ring) (sym c.put.ensures)
     c.complete-at.ensures.completes in
     record {
+      reserved = c.args.self.now.reserved;
       room = c.complete-at.ensures.room ∙ c.send.ensures.room ∙ p.room;
       rests = completes_rest V p.at c.put.new.at p.intake c.complete-at.new.intake p.held left p.ring.items ring p.calls p.ending completes c.requires p.rests;
       begins = subst (λ (a : At g.row.B.Denot g.row.H.Denot). Begins a c.complete-at.new.intake c.begins-self.result) (sym c.put.ensures)
