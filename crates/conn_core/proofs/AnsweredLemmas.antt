@@ -23,7 +23,8 @@ use Rattle.talk_core.specs.declared.ended.Why.{Why}
 use Rattle.talk_core.specs.declared.ended.Why.TheVariants as why
 use Rattle.talk_core.specs.Answered.{Answers, tell_by, tell_from, HasAsked, SentUpTo, SentOf, SentSince, KeepsValues, IsEndedAsked}
 use Rattle.talk_core.specs.Asked.{IsAsked}
-use Rattle.talk_core.specs.Ended.{Past, AreLives, AreEndedLives, past_of}
+use Rattle.talk_core.specs.Ended.{Past, AreEndedLives, past_of}
+use Rattle.talk_core.specs.Lives.{AreLives}
 use Rattle.talk_core.specs.Stands.{silent, ClosesAt}
 use Rattle.talk_core.specs.Tail.{Voice}
 use Rattle.talk_core.specs.Talk.{Asks, wanting, hijacked, replies_to}
@@ -176,11 +177,11 @@ module _ {L B H : Type 0} {g : Ghosts B} (seen : L → Seen) (V : Voice H) (IsFi
         asked = asks.0;
         rest = asks.1;
         asks = asks.2;
-        lives = go e.lives.items p (subst AreLives (sym lives) h.lives_are);
+        lives = go e.lives.items p (subst (λ (x : List Life). AreLives x e.calls) (sym lives) (subst (λ (k : ℕ). AreLives o.lives k) (sym calls) h.lives_are));
         keeps = ends_keeps o.ending e.why V U p x.ends;
       }
     where
-      go : (ls : List Life) (p : Past) → AreLives ls → AreEndedLives ls e.why p
+      go : (ls : List Life) (p : Past) → AreLives ls p.calls → AreEndedLives ls e.why p
       go [] p are = absurd are
       go (life ∷ ls) p are = are
 

@@ -1,5 +1,6 @@
 -- What an owner carries of a connection whatever its runner is: each call keeps it.
-use Rattle.std.proofs.Common.{◌≡◌, ℕ, zero, suc, ◌<◌, ◌≤◌, Bool, true, false, nat_lt, List, [], refl, sym, ap, subst, ◌∙◌, arith, Option, None, Some, ◌⊎◌, ⊎_elim}
+use Rattle.std.proofs.Common.{◌≡◌, ℕ, zero, suc, ◌<◌, ◌≤◌, Bool, true, false, nat_lt, List, [], refl, sym, ap, subst, ◌∙◌, arith, Option, None, Some, ◌⊎◌, ⊎_elim, ◌+◌}
+use Rattle.std.specs.Prelude.{length, if◌then◌else◌}
 use Rattle.std.proofs.lemmas.Bool.Decides.{nat_tests}
 use Rattle.rack_types.specs.declared.answer.Answer.{Answer}
 use Rattle.rack_types.specs.declared.answer.Answer.TheVariants.{Raised}
@@ -10,11 +11,14 @@ use Rattle.rack_types.specs.Env.{Pairs}
 use Rattle.rack_types.specs.Runner.{Asked}
 use Rattle.rack_outside.specs.Link.{Seen}
 use Rattle.talk_core.specs.declared.ended.Why.{Why}
+use Rattle.talk_core.specs.declared.ended.IdleBy.TheVariants.{Drain}
+use Rattle.talk_core.specs.declared.ended.Life.{Life}
+use Rattle.talk_core.specs.declared.ended.Why.TheVariants as why
 use Rattle.talk_core.specs.Answered.{Answers, tell_by, tell_from}
-use Rattle.talk_core.specs.Ended.{AreLives}
+use Rattle.talk_core.specs.Lives.{AreLives, lives_limit}
 use Rattle.talk_core.specs.Tail.{Voice}
 use Rattle.talk_core.specs.Teller.{Stack, Stacks, Teller, tell}
-use Rattle.talk_core.proofs.CallerLemmas.{joined, joined_below, joined_from, from_joined}
+use Rattle.talk_core.proofs.CallerLemmas.{lives_later, placed_are, joined, joined_below, joined_from, from_joined}
 use Rattle.conn_core.specs.declared.conn.Conn.{Conn}
 use Rattle.conn_core.specs.declared.inside.Inside.{Inside}
 use Rattle.conn_core.specs.declared.moments.Ending.{Ending}
@@ -27,7 +31,7 @@ use Rattle.conn_core.specs.Calls.{Feeds, Flushes, Turns}
 use Rattle.conn_core.specs.Holds.{kept, Holds, HoldsWith}
 use Rattle.conn_core.specs.Keeps.{no_bytes, reaching}
 use Rattle.conn_core.specs.Opened.{opened}
-use Rattle.conn_core.specs.Owner.{PlacedIn, Ticks, ended_as, late_as, drained, drained_from, drained_in, drained_reading, drained_hijacked}
+use Rattle.conn_core.specs.Owner.{HasRoomFor, IsNoneAbove, placed, Ticks, ended_as, late_as, drained, drained_from, drained_in, drained_reading, drained_hijacked}
 use Rattle.conn_core.specs.Ran.{Ran, HoldsAny}
 use Rattle.conn_core.specs.Shown.{Shown, shown, link_of}
 use Rattle.conn_core.proofs.RanLemmas.{no_answers}
@@ -93,8 +97,12 @@ drained_ground level c = from c.taken
     as_here : SameGround c d
     as_here = record { local = refl; peer = refl; lives = refl; calls = refl; closing = refl }
 
+    room : (b : Bool) → SameGround c (if b then d else ended_as (why.Idle (Drain level)) d)
+    room true = as_here
+    room false = record { local = refl; peer = refl; lives = refl; calls = refl; closing = refl }
+
     reading : (o : Option ℕ) → SameGround c (drained_reading o level d)
-    reading None = record { local = refl; peer = refl; lives = refl; calls = refl; closing = refl }
+    reading None = room (nat_lt (length c.lives) lives_limit)
     reading (Some since) = as_here
 
     handed : (b : Bool) → SameGround c (drained_hijacked b (record d { ending = record d.ending { left = true } }))
@@ -131,7 +139,7 @@ module _ {L B H : Type 0} {g : Ghosts B} (seen : L → Seen) (V : Voice H) (IsFi
       record {
         answers = a;
         fit = λ k lt. h.fit k (omega (arith, lt, same.calls));
-        lives_are = subst AreLives (sym same.lives) h.lives_are;
+        lives_are = subst (λ (x : List Life). AreLives x n.calls) (sym same.lives) (subst (λ (k : ℕ). AreLives o.lives k) (sym same.calls) h.lives_are);
         stands = subst (λ (U : Teller H). HoldsWith seen V U d) is (keeps T h.stands);
       }
 
@@ -178,23 +186,23 @@ module _ {L B H : Type 0} {g : Ghosts B} (seen : L → Seen) (V : Voice H) (IsFi
       → ((T : Teller H) → HoldsWith seen V T c → HoldsWith seen V T d) → HoldsAny seen V IsFit c → HoldsAny seen V IsFit d
   any_lent c d e = any_kept c d (ground_same (shown c) (shown d) e)
 
-  -- placing gives it another life
-  pub any_placed : (c d : Conn L B H g) (phase : ℕ) → PlacedIn phase (shown c) (shown d)
+  -- placing may give it another life
+  pub any_placed : (c d : Conn L B H g) (phase : ℕ) → shown d ≡ placed phase (shown c) → HasRoomFor phase (shown c) → IsNoneAbove phase (shown c)
       → ((T : Teller H) → HoldsWith seen V T c → HoldsWith seen V T d) → HoldsAny seen V IsFit c → HoldsAny seen V IsFit d
-  any_placed c d phase p keeps h =
+  any_placed c d phase p room none_above keeps h =
       let o = shown c in
       let n = shown d in
       let a = h.answers in
-      let calls : n.calls ≡ o.calls = ap (λ (x : Shown). x.calls) p.rest in
+      let calls : n.calls ≡ o.calls = ap (λ (x : Shown). x.calls) p in
       let T : Teller H = tell_by a o.local o.peer o.ending.closing in
       let is : T ≡ tell_by a n.local n.peer n.ending.closing =
-      ap (λ (l : Local). tell_by a l o.peer o.ending.closing) (sym (ap (λ (x : Shown). x.local) p.rest))
-      ∙ ap (λ (e : List ℕ). tell_by a n.local e o.ending.closing) (sym (ap (λ (x : Shown). x.peer) p.rest))
-      ∙ ap (λ (x : Option ℕ). tell_by a n.local n.peer x) (sym (ap (λ (x : Shown). x.ending.closing) p.rest)) in
+      ap (λ (l : Local). tell_by a l o.peer o.ending.closing) (sym (ap (λ (x : Shown). x.local) p))
+      ∙ ap (λ (e : List ℕ). tell_by a n.local e o.ending.closing) (sym (ap (λ (x : Shown). x.peer) p))
+      ∙ ap (λ (x : Option ℕ). tell_by a n.local n.peer x) (sym (ap (λ (x : Shown). x.ending.closing) p)) in
       record {
         answers = a;
         fit = λ k lt. h.fit k (omega (arith, lt, calls));
-        lives_are = subst AreLives (sym (p.lives h.lives_are)) refl;
+        lives_are = subst (λ (x : Shown). AreLives x.lives x.calls) (sym p) (placed_are o.lives phase o.calls h.lives_are room none_above);
         stands = subst (λ (U : Teller H). HoldsWith seen V U d) is (keeps T h.stands);
       }
 
@@ -211,7 +219,8 @@ module _ {L B H : Type 0} {g : Ghosts B} (seen : L → Seen) (V : Voice H) (IsFi
     record {
       answers = J;
       fit = fits;
-      lives_are = subst AreLives (sym t.moved.lives) h.lives_are;
+      lives_are = let later : o.calls ≤ n.calls = omega (arith, t.calls) in
+          subst (λ (x : List Life). AreLives x n.calls) (sym t.moved.lives) (lives_later o.lives o.calls n.calls later h.lives_are);
       stands = retold V (tell_from (tell_by a n.local n.peer o.ending.closing) first r.answers n.local n.peer n.ending.closing)
           (tell_by J n.local n.peer n.ending.closing) (seen d.link) p.peer p.at (kept p)
           (from_joined a r.answers n.local n.peer o.ending.closing n.ending.closing first n.calls

@@ -1,5 +1,6 @@
 -- That the levels that a connection was told and keeps stay within their bound, and that at level 0 no drain ends it.
-use Rattle.std.proofs.Common.{◌≡◌, ◌≢◌, ℕ, zero, suc, ◌≤◌, ◌<◌, Bool, true, false, List, [], ◌∷◌, refl, sym, ap, subst, ◌∙◌, arith, Option, None, Some, ◌⊎◌, inl, inr}
+use Rattle.std.proofs.Common.{◌≡◌, ◌≢◌, ℕ, zero, suc, ◌≤◌, ◌<◌, Bool, true, false, List, [], ◌∷◌, refl, sym, ap, subst, ◌∙◌, arith, Option, None, Some, ◌⊎◌, inl, inr, nat_lt}
+use Rattle.std.specs.Prelude.{length, if◌then◌else◌}
 use Rattle.std.specs.Prelude.{IsSome}
 use Rattle.rack_types.specs.declared.peer.Local.{Local}
 use Rattle.rack_outside.specs.Link.{Seen}
@@ -8,6 +9,7 @@ use Rattle.talk_core.specs.declared.ended.IdleBy.TheVariants.{Clock, Drain}
 use Rattle.talk_core.specs.declared.ended.Life.{Life}
 use Rattle.talk_core.specs.declared.ended.Why.{Why}
 use Rattle.talk_core.specs.declared.ended.Why.TheVariants as why
+use Rattle.talk_core.specs.Lives.{lives_limit}
 use Rattle.talk_core.specs.Ended.{Past, past_of, ByDrain, WhyByDrain, IsUndrained, EndsBy}
 use Rattle.talk_core.specs.Tail.{Voice, goes_on}
 use Rattle.talk_core.specs.Teller.{Stacks, Teller, tell}
@@ -181,8 +183,13 @@ in_told state.Hijacked level most c le some h reading =
     (record { told = h.told; closing = h.closing; left = inr some; why = h.why })
 in_told state.Over level most c le some h reading = h
 
+room_told : (room : Bool) (level most : ℕ) (c : Shown) → level ≤ most → ToldUpTo most c
+    → ToldUpTo most (if room then c else ended_as (why.Idle (Drain level)) c)
+room_told true level most c le h = h
+room_told false level most c le h = ended_told most (why.Idle (Drain level)) c le h
+
 reading_told : (begun : Option ℕ) (level most : ℕ) (c : Shown) → level ≤ most → ToldUpTo most c → ToldUpTo most (drained_reading begun level c)
-reading_told None level most c le h = ended_told most (why.Idle (Drain level)) c le h
+reading_told None level most c le h = room_told (nat_lt (length c.lives) lives_limit) level most c le h
 reading_told (Some since) level most c le h = h
 
 from_told : (taken level most : ℕ) (c : Shown) → level ≤ most → 1 ≤ most → ToldUpTo most c → ToldUpTo most (drained_from taken level c)

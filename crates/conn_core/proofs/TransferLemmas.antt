@@ -1,10 +1,14 @@
 -- That a connection of which nothing was told of its end stays such a one, and that no drain ended it.
-use Rattle.std.proofs.Common.{◌≡◌, ◌≢◌, ℕ, zero, suc, ◌≤◌, ◌<◌, Bool, true, false, List, [], ◌∷◌, refl, sym, ap, subst, ◌∙◌, arith, Option, None, Some, ◌⊎◌, inl, inr}
+use Rattle.std.proofs.Common.{◌≡◌, ◌≢◌, ℕ, zero, suc, ◌≤◌, ◌<◌, Bool, true, false, List, [], ◌∷◌, refl, sym, ap, subst, ◌∙◌, arith, Option, None, Some, ◌⊎◌, inl, inr, nat_lt}
+use Rattle.std.proofs.lemmas.Bool.Decides.{nat_tests}
+use Rattle.std.specs.Prelude.{length, if◌then◌else◌}
 use Rattle.rack_types.specs.declared.peer.Local.{Local}
 use Rattle.rack_outside.specs.Link.{Seen}
 use Rattle.talk_core.specs.declared.ended.Life.{Life}
 use Rattle.talk_core.specs.declared.ended.Why.{Why}
 use Rattle.talk_core.specs.declared.ended.Why.TheVariants as why
+use Rattle.talk_core.specs.declared.ended.IdleBy.TheVariants.{Drain}
+use Rattle.talk_core.specs.Lives.{lives_limit}
 use Rattle.conn_core.specs.declared.moments.Ending.{Ending}
 use Rattle.conn_core.specs.declared.moments.Late.{Late}
 use Rattle.conn_core.specs.declared.moments.Moments.{Moments}
@@ -16,7 +20,7 @@ use Rattle.conn_core.specs.declared.state.State.TheVariants as state
 use Rattle.conn_core.specs.Calls.{Feeds, Turns, Flushes, TurnEnds, IsOfFeed}
 use Rattle.conn_core.specs.Keeps.{Drains, reaching}
 use Rattle.conn_core.specs.Opened.{opened, untold, first_moments}
-use Rattle.conn_core.specs.Owner.{IsUnread, ended_as, Ticks, drained, drained_from}
+use Rattle.conn_core.specs.Owner.{IsUnread, IsIdle, MayPlace, ended_as, Ticks, drained, drained_from, drained_in, drained_reading}
 use Rattle.conn_core.specs.Shown.{Shown}
 use Rattle.conn_core.specs.Transfer.{IsBareWhy, Transfer, as_untold}
 use Rattle.conn_core.specs.Within.{MomentsBy, KeptFrom, LateWithin, WhyWithin, KeptWithin}
@@ -71,7 +75,7 @@ untold_drains o n none h =
     ] in
     nothing_told n.ending.told n.ending.closing n.ending.late n.ending.left told closing late left
 
-no_mark : (c : Shown) → false ≡ true → IsUnread c
+no_mark : (c : Shown) → false ≡ true → MayPlace c
 no_mark c e = cc
 
 -- it stays one behind each of its own calls
@@ -125,16 +129,16 @@ opened_transfer peer local phase least now later = record {
   moments = record { opened = later; took = tt; begun = tt; filled = later };
   untold_is = refl;
   why = tt;
-  waits = λ e. (refl, (λ (over : state.Reading ≡ state.Over). cc));
+  waits = λ e. inl (refl, (λ (over : state.Reading ≡ state.Over). cc));
 }
 
 pub transfer_unmarked : (local : Local) (least : ℕ) (marked : Bool) (c : Shown) → Transfer local least marked c → Transfer local least false c
 transfer_unmarked local least marked c h =
     record { local_is = h.local_is; moments = h.moments; untold_is = h.untold_is; why = h.why; waits = no_mark c }
 
-pub transfer_marked : (local : Local) (least : ℕ) (marked : Bool) (c : Shown) → Transfer local least marked c → IsUnread c → Transfer local least true c
-transfer_marked local least marked c h unread =
-    record { local_is = h.local_is; moments = h.moments; untold_is = h.untold_is; why = h.why; waits = λ e. unread }
+pub transfer_marked : (local : Local) (least : ℕ) (marked : Bool) (c : Shown) → Transfer local least marked c → MayPlace c → Transfer local least true c
+transfer_marked local least marked c h may =
+    record { local_is = h.local_is; moments = h.moments; untold_is = h.untold_is; why = h.why; waits = λ e. may }
 
 pub placed_transfer : (local : Local) (least : ℕ) (marked : Bool) (lives : List Life) (c : Shown) → Transfer local least marked (as_untold c)
     → Transfer local least marked (record c { lives = lives; ending = record c.ending { told = 0 } })
@@ -151,9 +155,32 @@ drained_transfer local least level marked c h unread =
       moments = h.moments;
       untold_is = h.untold_is;
       why = h.why;
-      waits = λ e. unread;
+      waits = λ e. inl unread;
     } in
     subst (λ (n : ℕ). Transfer local least true (as_untold (drained_from n level told))) (sym unread.0) from
+
+-- and so of one that is idle and has room for one more life
+pub idle_transfer : (local : Local) (least level : ℕ) (marked : Bool) (c : Shown) → Transfer local least marked (as_untold c) → IsIdle c
+    → length c.lives < lives_limit → Transfer local least true (as_untold (drained level c))
+idle_transfer local least level marked c h idle room = taken c.taken idle.1
+  where
+    told : Shown
+    told = record c { ending = record c.ending { told = level } }
+
+    from : Transfer local least true (as_untold told)
+    from = record { local_is = h.local_is; moments = h.moments; untold_is = h.untold_is; why = h.why; waits = λ e. inr idle }
+
+    lives : (b : Bool) → nat_lt (length c.lives) lives_limit ≡ b → Transfer local least true (as_untold (if b then told else ended_as (why.Idle (Drain level)) told))
+    lives true is = from
+    lives false is = absurd (grind (arith, nat_tests, is, room))
+
+    reading : (b : Option ℕ) → b ≡ None → Transfer local least true (as_untold (drained_reading b level told))
+    reading None is = lives (nat_lt (length c.lives) lives_limit) refl
+    reading (Some since) is = cc
+
+    taken : (n : ℕ) → 0 < n → Transfer local least true (as_untold (drained_from n level told))
+    taken zero some = absurd (omega (arith, some))
+    taken (suc n) some = subst (λ (s : State). Transfer local least true (as_untold (drained_in s level told))) (sym idle.0) (reading c.moments.begun idle.2)
 
 -- it keeps no moments outside any bounds
 pub transfer_within : (local : Local) (least last : ℕ) (marked : Bool) (c : Shown) → Transfer local least marked c → KeptWithin least last c

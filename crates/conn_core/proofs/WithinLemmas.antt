@@ -1,5 +1,6 @@
 -- That the moments and levels that a connection keeps stay within their bounds.
-use Rattle.std.proofs.Common.{◌≡◌, ℕ, zero, suc, ◌≤◌, max, Bool, true, false, List, [], ◌∷◌, refl, sym, ap, subst, ◌∙◌, arith, Option, None, Some, ◌⊎◌, inl, inr}
+use Rattle.std.proofs.Common.{◌≡◌, ℕ, zero, suc, ◌≤◌, max, Bool, true, false, List, [], ◌∷◌, refl, sym, ap, subst, ◌∙◌, arith, Option, None, Some, ◌⊎◌, inl, inr, nat_lt}
+use Rattle.std.specs.Prelude.{length, if◌then◌else◌}
 use Rattle.rack_outside.specs.Link.{Seen}
 use Rattle.rack_outside.specs.declared.link.LinkRead.TheVariants as read
 use Rattle.rack_outside.specs.declared.link.LinkWrite.TheVariants as write
@@ -7,6 +8,7 @@ use Rattle.talk_core.specs.declared.ended.IdleBy.TheVariants.{Clock, Drain}
 use Rattle.talk_core.specs.declared.ended.Life.{Life}
 use Rattle.talk_core.specs.declared.ended.Why.{Why}
 use Rattle.talk_core.specs.declared.ended.Why.TheVariants as why
+use Rattle.talk_core.specs.Lives.{lives_limit}
 use Rattle.conn_core.specs.declared.moments.Ending.{Ending}
 use Rattle.conn_core.specs.declared.moments.Late.{Late}
 use Rattle.conn_core.specs.declared.moments.Moments.{Moments}
@@ -149,30 +151,30 @@ kept_from least now m n later h k =
     }
 
 -- a lower least, and a later last
-within_later : (least last then : ℕ) (w : Option Why) → last ≤ then → WhyWithin least last w → WhyWithin least then w
-within_later least last then None le h = tt
-within_later least last then (Some why.Closed) le h = tt
-within_later least last then (Some why.PeerEnd) le h = tt
-within_later least last then (Some (why.Idle (Clock since now))) le h = (h.0, (let e : now ≤ then = omega (arith, le, h.1) in e))
-within_later least last then (Some (why.Idle (Drain level))) le h = tt
-within_later least last then (Some (why.TimedOut since now)) le h = (h.0, (let e : now ≤ then = omega (arith, le, h.1) in e))
-within_later least last then (Some (why.Stalled since now)) le h = (h.0, (let e : now ≤ then = omega (arith, le, h.1) in e))
-within_later least last then (Some (why.Unread level)) le h = tt
-within_later least last then (Some why.ReadFailed) le h = tt
-within_later least last then (Some why.WriteFailed) le h = tt
-within_later least last then (Some (why.Halted level)) le h = tt
-within_later least last then (Some why.NoMemory) le h = tt
-within_later least last then (Some why.Hijacked) le h = tt
+within_later : (least last end : ℕ) (w : Option Why) → last ≤ end → WhyWithin least last w → WhyWithin least end w
+within_later least last end None le h = tt
+within_later least last end (Some why.Closed) le h = tt
+within_later least last end (Some why.PeerEnd) le h = tt
+within_later least last end (Some (why.Idle (Clock since now))) le h = (h.0, (let e : now ≤ end = omega (arith, le, h.1) in e))
+within_later least last end (Some (why.Idle (Drain level))) le h = tt
+within_later least last end (Some (why.TimedOut since now)) le h = (h.0, (let e : now ≤ end = omega (arith, le, h.1) in e))
+within_later least last end (Some (why.Stalled since now)) le h = (h.0, (let e : now ≤ end = omega (arith, le, h.1) in e))
+within_later least last end (Some (why.Unread level)) le h = tt
+within_later least last end (Some why.ReadFailed) le h = tt
+within_later least last end (Some why.WriteFailed) le h = tt
+within_later least last end (Some (why.Halted level)) le h = tt
+within_later least last end (Some why.NoMemory) le h = tt
+within_later least last end (Some why.Hijacked) le h = tt
 
-late_later : (least last then : ℕ) (l : Option Late) → last ≤ then → LateWithin least last l → LateWithin least then l
-late_later least last then None le h = tt
-late_later least last then (Some late) le h = (h.0, (let e : late.now ≤ then = omega (arith, le, h.1) in e))
+late_later : (least last end : ℕ) (l : Option Late) → last ≤ end → LateWithin least last l → LateWithin least end l
+late_later least last end None le h = tt
+late_later least last end (Some late) le h = (h.0, (let e : late.now ≤ end = omega (arith, le, h.1) in e))
 
-pub within_then : (least last then : ℕ) (c : Shown) → last ≤ then → KeptWithin least last c → KeptWithin least then c
-within_then least last then c le h = record {
+pub within_then : (least last end : ℕ) (c : Shown) → last ≤ end → KeptWithin least last c → KeptWithin least end c
+within_then least last end c le h = record {
   moments = h.moments;
-  late = late_later least last then c.ending.late le h.late;
-  why = within_later least last then c.why le h.why;
+  late = late_later least last end c.ending.late le h.late;
+  why = within_later least last end c.why le h.why;
 }
 
 -- a call was handed a moment
@@ -284,8 +286,13 @@ hijacked_within : (none : Bool) (least last : ℕ) (c : Shown) → KeptWithin le
 hijacked_within true least last c h = ended_within least last why.Hijacked c tt h
 hijacked_within false least last c h = record { moments = h.moments; late = h.late; why = h.why }
 
+room_within : (room : Bool) (level least last : ℕ) (c : Shown) → KeptWithin least last c
+    → KeptWithin least last (if room then c else ended_as (why.Idle (Drain level)) c)
+room_within true level least last c h = h
+room_within false level least last c h = ended_within least last (why.Idle (Drain level)) c tt h
+
 reading_within : (begun : Option ℕ) (level least last : ℕ) (c : Shown) → KeptWithin least last c → KeptWithin least last (drained_reading begun level c)
-reading_within None level least last c h = ended_within least last (why.Idle (Drain level)) c tt h
+reading_within None level least last c h = room_within (nat_lt (length c.lives) lives_limit) level least last c h
 reading_within (Some since) level least last c h = h
 
 in_within : (s : State) (level least last : ℕ) (c : Shown) → KeptWithin least last c → KeptWithin least last (drained_in s level c)

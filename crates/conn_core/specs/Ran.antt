@@ -13,7 +13,7 @@ use Rattle.talk_core.specs.declared.ended.Why.{Why}
 use Rattle.talk_core.specs.declared.ended.Why.TheVariants as why
 use Rattle.talk_core.specs.Answered.{Answers, tell_by, tell_from, answers_to, asked_for, HasAsked, SentUpTo}
 use Rattle.talk_core.specs.Asked.{IsAsked}
-use Rattle.talk_core.specs.Ended.{AreLives}
+use Rattle.talk_core.specs.Lives.{AreLives}
 use Rattle.talk_core.specs.Tail.{Voice}
 use Rattle.talk_core.specs.Teller.{Stack, Teller}
 use Rattle.conn_core.specs.declared.conn.Conn.{Conn}
@@ -55,7 +55,7 @@ pub record Ran {R H : Type 0} (Stands : Teller H → Type 0) (T : Teller H) (ans
 pub record HoldsAny {L B H : Type 0} {g : Ghosts B} (seen : L → Seen) (V : Voice H) (IsFit : Answer Content H → Type 0) (c : Conn L B H g) : Type 0 where
   pub answers : Answers H
   pub fit : (k : ℕ) → k < (shown c).calls → IsFit (answers k)
-  pub lives_are : AreLives (shown c).lives
+  pub lives_are : AreLives (shown c).lives (shown c).calls
   pub stands : HoldsWith seen V (tell_by answers (shown c).local (shown c).peer (shown c).ending.closing) c
 
 -- the requests that were asked on a connection, counted by what they say themselves, as far as its link tells what it gave

@@ -4,7 +4,7 @@ use Rattle.rack_types.specs.declared.peer.Local.{Local}
 use Rattle.talk_core.specs.declared.ended.Why.{Why}
 use Rattle.talk_core.specs.declared.ended.Why.TheVariants as why
 use Rattle.conn_core.specs.Opened.{untold}
-use Rattle.conn_core.specs.Owner.{IsUnread}
+use Rattle.conn_core.specs.Owner.{MayPlace}
 use Rattle.conn_core.specs.Shown.{Shown}
 use Rattle.conn_core.specs.Within.{KeptFrom}
 
@@ -25,13 +25,13 @@ IsBareWhy (Some why.NoMemory) = ⊤
 IsBareWhy (Some why.Hijacked) = ⊤
 
 -- a connection that may go through a lane: it has this local side, none of its moments is below the least one, nothing
--- was told of its end, its why is bare, and at a lane with the mark no byte of it was ever read
+-- was told of its end, its why is bare, and at a lane with the mark it may be placed anew
 pub record Transfer (local : Local) (least : ℕ) (marked : Bool) (c : Shown) : Type 0 where
   pub local_is : c.local ≡ local
   pub moments : KeptFrom least c.moments
   pub untold_is : c.ending ≡ untold
   pub why : IsBareWhy c.why
-  pub waits : marked ≡ true → IsUnread c
+  pub waits : marked ≡ true → MayPlace c
 
 -- the same connection, had it been told no drain
 abbrev pub as_untold : Shown → Shown

@@ -128,7 +128,7 @@ returns-in-Ok-clause-runs g c =
     let place : c.put.new.at ≡ c.hand_over-at.result = c.put.ensures in
     let ring = c.hand_over-at.new.ring.items in
     let left = c.hand_over-at.new.held in
-    let answer = g.R.Runner.answer c.args.runner.now c.prepare.new.env.pairs c.prepare.new.env.input.bytes in (
+    let answer = c.run-at.ensures.runs.answer in (
       run_began V _ _ p.calls (ap (λ (a : At g.row.B.Denot g.row.H.Denot). replied_at a p.calls) c.requires.at) c.in-Ok.ask c.prepare.new.env.pairs
           answer c.is_last-last.result c.run-at.result c.hand_over-at.result
           p.held p.ring.items ring left (record { peer = refl; local = refl; lives = refl; taken = refl }) refl

@@ -17,6 +17,7 @@ returns-else-answer g c = record {
   few = omega arith;
   falls = over_falls c.args.left.now c.args.self.now.at c.answer.new.self.at c.requires.ready c.if-answer.ensures.runs.0.state;
   counts = omega (arith, c.if-answer.ensures.counts);
+  becomes = c.if-answer.ensures.becomes;
   steady = c.if-answer.ensures.steady;
 }
 
