@@ -64,7 +64,7 @@ pub(crate) struct Names {
 impl Runner<Plain, StockHijack> for Names {
     ghost runs = { λ r. r.runs };
 
-    ghost answer = { λ r ps input. Reply 200 [] (plain_content (string_bytes r.name ∷ []) false true Enumerable) None };
+    ghost answer = { λ r ps input. Reply 200 [] (plain_content (r.name.now ∷ []) false true Enumerable) None };
 
     ghost steady = { true };
 
