@@ -38,7 +38,7 @@ use Rattle.conn_core.proofs.WhyLemmas.{no_why_at}
 pub use Rattle.conn_core.proofs.ConnLemmas.{Part}
 pub use Rattle.conn_core.proofs.MovedLemmas.{moved_then, ends_then}
 pub use Rattle.conn_core.proofs.WithinLemmas.{feed_moments, turn_moments, flush_moments, moments_same, moments_then, kept_from, within_then, feed_within, turn_within, flush_within, tick_within, ended_within, drained_within, placed_within}
-pub use Rattle.conn_core.proofs.TransferLemmas.{feed_transfer, turn_transfer, flush_transfer, tick_transfer, opened_transfer, placed_transfer, drained_transfer, idle_transfer, transfer_unmarked, transfer_marked, transfer_within}
+pub use Rattle.conn_core.proofs.TransferLemmas.{feed_transfer, turn_transfer, flush_transfer, tick_transfer, opened_transfer, placed_transfer, drained_transfer, drained_keeps, transfer_unmarked, transfer_marked, transfer_within}
 pub use Rattle.conn_core.proofs.LevelLemmas.{transfer_told, told_more, feed_told, turn_told, flush_told, tick_told, ended_told, drained_told, placed_told, no_drain}
 pub use Rattle.conn_core.proofs.StoppingLemmas.{feed_rose, flush_writes, flush_rose, turn_leaves, flush_leaves}
 pub use Rattle.conn_core.proofs.AnyLemmas.{SameGround, any_kept, any_opened, any_fed, any_flushed, any_ticked, any_drained, any_ended, any_lent, any_placed, any_turned}

@@ -18,9 +18,9 @@ use Rattle.conn_core.specs.declared.state.Tick.TheVariants as tick
 use Rattle.conn_core.specs.declared.state.State.{State}
 use Rattle.conn_core.specs.declared.state.State.TheVariants as state
 use Rattle.conn_core.specs.Calls.{Feeds, Turns, Flushes, TurnEnds, IsOfFeed}
-use Rattle.conn_core.specs.Keeps.{Drains, reaching}
+use Rattle.conn_core.specs.Keeps.{Drains, reaching, no_bytes}
 use Rattle.conn_core.specs.Opened.{opened, untold, first_moments}
-use Rattle.conn_core.specs.Owner.{IsUnread, IsIdle, MayPlace, ended_as, Ticks, drained, drained_from, drained_in, drained_reading}
+use Rattle.conn_core.specs.Owner.{MayPlace, ended_as, Ticks, drained_reading, drained_hijacked, drained_in, drained_from, drained}
 use Rattle.conn_core.specs.Shown.{Shown}
 use Rattle.conn_core.specs.Transfer.{IsBareWhy, Transfer, as_untold}
 use Rattle.conn_core.specs.Within.{MomentsBy, KeptFrom, LateWithin, WhyWithin, KeptWithin}
@@ -145,42 +145,74 @@ pub placed_transfer : (local : Local) (least : ℕ) (marked : Bool) (lives : Lis
 placed_transfer local least marked lives c h =
     record { local_is = h.local_is; moments = h.moments; untold_is = h.untold_is; why = h.why; waits = h.waits }
 
--- one that was told a drain and of which no byte was ever read, but for that telling
-pub drained_transfer : (local : Local) (least level : ℕ) (marked : Bool) (c : Shown) → Transfer local least marked (as_untold c) → IsUnread c
-    → Transfer local least true (as_untold (drained level c))
-drained_transfer local least level marked c h unread =
+-- a drain leaves one that still reads as it was, and one of which no byte was ever read, but for that telling
+room_keeps : (room : Bool) (level : ℕ) (c : Shown) → (if room then c else ended_as (why.Idle (Drain level)) c).state ≡ state.Reading
+    → (if room then c else ended_as (why.Idle (Drain level)) c) ≡ c
+room_keeps true level c e = refl
+room_keeps false level c e = cc (e)
+
+reading_keeps : (begun : Option ℕ) (level : ℕ) (c : Shown) → (drained_reading begun level c).state ≡ state.Reading → drained_reading begun level c ≡ c
+reading_keeps None level c e = room_keeps (nat_lt (length c.lives) lives_limit) level c e
+reading_keeps (Some since) level c e = refl
+
+hijacked_keeps : (none : Bool) (c : Shown) → c.state ≡ state.Hijacked → (drained_hijacked none c).state ≡ state.Reading → ⊥
+hijacked_keeps true c held e = cc (e)
+hijacked_keeps false c held e = cc (held, e)
+
+in_keeps : (s : State) (level : ℕ) (c : Shown) → c.state ≡ s → (drained_in s level c).state ≡ state.Reading → drained_in s level c ≡ c
+in_keeps state.Reading level c is e = reading_keeps c.moments.begun level c e
+in_keeps state.Ready level c is e = refl
+in_keeps state.Answering level c is e = refl
+in_keeps state.Hijacked level c is e =
+    absurd (hijacked_keeps (no_bytes c.owed) (record c { ending = record c.ending { left = true } }) is e)
+in_keeps state.Over level c is e = refl
+
+from_keeps : (taken level : ℕ) (c : Shown) → (taken ≡ 0) ⊎ ((drained_from taken level c).state ≡ state.Reading) → drained_from taken level c ≡ c
+from_keeps zero level c h = refl
+from_keeps (suc n) level c h = elim h [ inl none ↦ absurd (omega (arith, none)) | inr reads ↦ in_keeps c.state level c refl reads ]
+
+room_taken : (room : Bool) (level : ℕ) (c : Shown) → (if room then c else ended_as (why.Idle (Drain level)) c).taken ≡ c.taken
+room_taken true level c = refl
+room_taken false level c = refl
+
+reading_taken : (begun : Option ℕ) (level : ℕ) (c : Shown) → (drained_reading begun level c).taken ≡ c.taken
+reading_taken None level c = room_taken (nat_lt (length c.lives) lives_limit) level c
+reading_taken (Some since) level c = refl
+
+hijacked_taken : (none : Bool) (c : Shown) → (drained_hijacked none c).taken ≡ c.taken
+hijacked_taken true c = refl
+hijacked_taken false c = refl
+
+in_taken : (s : State) (level : ℕ) (c : Shown) → (drained_in s level c).taken ≡ c.taken
+in_taken state.Reading level c = reading_taken c.moments.begun level c
+in_taken state.Ready level c = refl
+in_taken state.Answering level c = refl
+in_taken state.Hijacked level c = hijacked_taken (no_bytes c.owed) (record c { ending = record c.ending { left = true } })
+in_taken state.Over level c = refl
+
+from_taken : (taken level : ℕ) (c : Shown) → (drained_from taken level c).taken ≡ c.taken
+from_taken zero level c = refl
+from_taken (suc n) level c = in_taken c.state level c
+
+pub drained_keeps : (level : ℕ) (c : Shown) → ((drained level c).taken ≡ 0) ⊎ ((drained level c).state ≡ state.Reading)
+    → drained level c ≡ record c { ending = record c.ending { told = level } }
+drained_keeps level c h =
     let told : Shown = record c { ending = record c.ending { told = level } } in
-    let from : Transfer local least true (as_untold told) = record {
-      local_is = h.local_is;
-      moments = h.moments;
-      untold_is = h.untold_is;
-      why = h.why;
-      waits = λ e. inl unread;
-    } in
-    subst (λ (n : ℕ). Transfer local least true (as_untold (drained_from n level told))) (sym unread.0) from
+    from_keeps c.taken level told (elim h [ inl none ↦ inl (sym (from_taken c.taken level told) ∙ none) | inr reads ↦ inr reads ])
 
--- and so of one that is idle and has room for one more life
-pub idle_transfer : (local : Local) (least level : ℕ) (marked : Bool) (c : Shown) → Transfer local least marked (as_untold c) → IsIdle c
-    → length c.lives < lives_limit → Transfer local least true (as_untold (drained level c))
-idle_transfer local least level marked c h idle room = taken c.taken idle.1
-  where
-    told : Shown
-    told = record c { ending = record c.ending { told = level } }
-
-    from : Transfer local least true (as_untold told)
-    from = record { local_is = h.local_is; moments = h.moments; untold_is = h.untold_is; why = h.why; waits = λ e. inr idle }
-
-    lives : (b : Bool) → nat_lt (length c.lives) lives_limit ≡ b → Transfer local least true (as_untold (if b then told else ended_as (why.Idle (Drain level)) told))
-    lives true is = from
-    lives false is = absurd (grind (arith, nat_tests, is, room))
-
-    reading : (b : Option ℕ) → b ≡ None → Transfer local least true (as_untold (drained_reading b level told))
-    reading None is = lives (nat_lt (length c.lives) lives_limit) refl
-    reading (Some since) is = cc
-
-    taken : (n : ℕ) → 0 < n → Transfer local least true (as_untold (drained_from n level told))
-    taken zero some = absurd (omega (arith, some))
-    taken (suc n) some = subst (λ (s : State). Transfer local least true (as_untold (drained_in s level told))) (sym idle.0) (reading c.moments.begun idle.2)
+-- one that was told a drain and may be placed anew, but for that telling
+pub drained_transfer : (local : Local) (least level : ℕ) (marked : Bool) (c n : Shown) → Transfer local least marked (as_untold c) → n ≡ drained level c
+    → MayPlace n → Transfer local least true (as_untold n)
+drained_transfer local least level marked c n h is may =
+    let reads : ((drained level c).taken ≡ 0) ⊎ ((drained level c).state ≡ state.Reading) =
+    elim may [
+      | inl unread ↦ inl (ap (λ (x : Shown). x.taken) (sym is) ∙ unread.0)
+      | inr idle ↦ inr (ap (λ (x : Shown). x.state) (sym is) ∙ idle.0)
+    ] in
+    let keeps : n ≡ record c { ending = record c.ending { told = level } } = is ∙ drained_keeps level c reads in
+    let from : Transfer local least marked (as_untold n) = subst (λ (x : Shown). Transfer local least marked (as_untold x)) (sym keeps)
+    (record { local_is = h.local_is; moments = h.moments; untold_is = h.untold_is; why = h.why; waits = h.waits }) in
+    record { local_is = from.local_is; moments = from.moments; untold_is = from.untold_is; why = from.why; waits = λ e. may }
 
 -- it keeps no moments outside any bounds
 pub transfer_within : (local : Local) (least last : ℕ) (marked : Bool) (c : Shown) → Transfer local least marked c → KeptWithin least last c
