@@ -28,7 +28,9 @@ import warm
 
 TOP = os.path.dirname(os.path.dirname(os.path.abspath(__file__)))
 PUMA = os.path.join(TOP, "bin", "puma")
-PROGRAM = os.path.join(TOP, "crates", "puma_cli", "out", "puma_cli")
+# The program that `bin/puma` runs, or where it builds one.
+PROGRAM = subprocess.run(["sh", "-c", 'top=$1; . "$top/bin/made_of"; find_program; printf %s "${program:-$built}"', "sh", TOP],
+                         stdout=subprocess.PIPE, text=True, check=True).stdout
 STACK = os.path.join(TOP, "examples", "hello.stack")
 ECHO = os.path.join(TOP, "examples", "echo.stack")
 

@@ -13,6 +13,7 @@ import tempfile
 import bodies
 import connections
 import documents
+import dist
 import endpoints
 import heads
 import hijacks
@@ -30,7 +31,7 @@ from wanted import ECHO, HELLO
 
 GROUPS = (
     scripts.check_scripts,
-    launcher.check_use, launcher.check_builds,
+    launcher.check_use, launcher.check_builds, dist.check_kept, dist.check_gate,
     words.check_words, words.check_options, words.check_help, words.check_files,
     documents.check_names,
     stacks.check_rules, stacks.check_written, stacks.check_arguments, stacks.check_file_sizes,

@@ -6,33 +6,69 @@ That nothing is proved here takes a tree of its own, in which `rt` is a stand-in
 import os
 import shutil
 import subprocess
+import sys
 import time
 
 from program import PUMA, TOP, run, write
 from wanted import ABSENT, ANSWERED, USAGE
 
 NOBODY = 65534
-TOOLS = ["cat", "cksum", "cmp", "find", "flock", "mkdir", "readlink", "sed", "sh", "sleep", "sort", "tail", "touch",
-         "xargs"]
+TOOLS = ["cat", "chmod", "cksum", "cmp", "cp", "dirname", "find", "mkdir", "mv", "readlink", "rm", "sed", "sh",
+         "sha256sum", "sleep", "sort", "touch", "wc", "xargs"]
 # Says what the real one says, and makes a program that prints its source, its words and its input.
 STAND_IN = b"""#!/bin/sh
-echo call >> ../../calls
+tree=${0%/*}/..
+if [ "$1" = version ]; then echo kit of a stand-in; exit; fi
+echo "$*" >> "$tree/calls"
+{ find . -type f | sort; cat crates.txt HANDLES crates/low/src/lib.rt; } > "$tree/seen" 2> /dev/null
+echo '== low'
 echo 'statements std: modules loaded=1 checked=0'
-echo 'rt: puma_cli: another copy is building this library; waiting for it, to use its work'
+echo 'fn low::half: proved'
+echo 'rt: low is kept: an earlier run on this machine proved the same files over the same libraries'
+echo 'rt: puma_cli: another run on this machine is proving the same; waiting for it'
+echo '== puma_cli'
 echo 'fn puma_cli::main: proved'
-echo 'crate puma_cli: modules loaded=1 checked=1'
+while [ -e "$tree/slow" ]; do sleep 0.05; done
+if [ -e "$tree/changes" ]; then cat "$tree/changes" >> "$tree/crates/puma_cli/src/main.rt"; fi
+if [ -e "$tree/broken" ]; then
+    echo 'error: this is the first'; echo ' and this its second line' >&2
+    echo 'rt: puma_cli NOT PROVED'; echo '1 passed, 1 failed'; exit 1
+fi
 echo 'logic=proved functions=17 sum=0'
-while [ -e ../../slow ]; do sleep 0.05; done
-if [ -e ../../changes ]; then cat ../../changes >> src/main.rt; fi
-if [ -e ../../broken ]; then echo 'error: this is the first'; echo ' and this its second line' >&2; exit 1; fi
-{ echo '#!/bin/sh'; echo "echo '$(cat src/main.rt)' \\"\\$@\\""; echo cat; } > out/puma_cli
-chmod 755 out/puma_cli
-out/puma_cli "$@" < /dev/null
+echo 'rt: puma_cli proved'
+mkdir -p crates/puma_cli/out
+{ echo '#!/bin/sh'; echo "echo '$(cat crates/puma_cli/src/main.rt)' \\"\\$@\\""; echo cat; } > crates/puma_cli/out/puma_cli
+echo '2 passed, 0 failed'
 """
-BUILDS = b"bin/puma: the program is proved and built first; from nothing this takes several minutes\n"
-PROVED = (b"bin/puma: puma_cli: another copy is building this library; waiting for it, to use its work\n"
-          b"bin/puma: puma_cli is proved, 17 functions\n")
+BUILDS = (b"bin/puma: the program is proved and built first: 2 crates, from nothing about a minute of one processor, "
+          b"on 2 processors about a minute, for low, puma_cli\n")
+WAITS_FOR = b"bin/puma: puma_cli: another run on this machine is proving the same; waiting for it\n"
+KEPT = b"bin/puma: low is kept, proved earlier on this machine; about a minute for puma_cli\n" + WAITS_FOR
+PROVED = KEPT + b"bin/puma: puma_cli is proved, 17 functions; it is built and run\n"
+# What the stand-in sees: the files, the crates, the handles, and the lower crate's source.
+SEEN = b"""./crates.txt
+./crates/low/src/lib.rt
+./crates/puma_cli/specs/Words.antt
+./crates/puma_cli/src/main.rt
+low: itoa
+puma_cli: low itoa
+/// Half of it.
+pub fn half() {
+}
+"""
 WAITS = b"bin/puma: waits for another call, which builds the program\n"
+LOW = b"""/// Half of it.
+pub fn half() {
+}
+
+#[cfg(test)]
+pub fn tests_only() {
+    half()
+}
+
+#[cfg(test)]
+mod tests;
+"""
 
 
 def check_use(checks):
@@ -67,15 +103,21 @@ class Tree:
 
     def __init__(self, name):
         self.top = os.path.abspath(name)
-        for folder in ("bin", "tools", "crates/puma_cli/src", "crates/puma_cli/specs", "crates/puma_cli/data"):
+        for folder in ("bin", "tools", "copies", "crates/puma_cli/src", "crates/puma_cli/specs", "crates/puma_cli/data",
+                       "crates/low/src", "crates/low/must-fail", "crates/low/proofs/tests", "crates/other/src"):
             os.makedirs(self.at(folder))
-        for name in ("puma", "made_of"):
+        for name in ("puma", "made_of", "build", "dist"):
             shutil.copy(os.path.join(os.path.dirname(PUMA), name), self.at("bin/" + name))
-        self.write("crates.txt", b"puma_cli:\n")
+        self.write("crates.txt", b"# the crates\nother: low\npuma_cli: low itoa\nlow: itoa\n")
         self.write("crates/puma_cli/src/main.rt", b"first")
         self.write("crates/puma_cli/specs/Words.antt", b"words")
-        for tool in [*TOOLS, "chmod"]:
+        self.write("crates/low/src/lib.rt", LOW)
+        for name in ("src/tests.rt", "must-fail/turned.edit", "proofs/tests/Answers.antt"):
+            self.write("crates/low/" + name, b"")
+        self.write("crates/other/src/lib.rt", b"")
+        for tool in TOOLS:
             os.symlink(shutil.which(tool), self.at("tools/" + tool))
+        os.symlink(sys.executable, self.at("tools/python3"))
         os.chmod(self.write("tools/rt", STAND_IN), 0o755)
 
     def at(self, name):
@@ -85,12 +127,15 @@ class Tree:
         return write(self.at(name), text)
 
     def run(self, *words, **how):
-        return run(words, program=(self.at("bin/puma"),), env={"PATH": self.at("tools")}, **how)
+        return run(words, program=(self.at("bin/puma"),), env=self.env(), **how)
+
+    def env(self):
+        return {"PATH": self.at("tools"), "RT_JOBS": "2", "TMPDIR": self.at("copies")}
 
     def begin(self, name):
         """Begins a call whose errors go into a file of this name."""
         with open(self.at(name), "wb") as errors:
-            return subprocess.Popen([self.at("bin/puma")], env={"PATH": self.at("tools")}, stdin=subprocess.DEVNULL,
+            return subprocess.Popen([self.at("bin/puma")], env=self.env(), stdin=subprocess.DEVNULL,
                                     stdout=subprocess.DEVNULL, stderr=errors)
 
     def said(self, name):
@@ -102,7 +147,7 @@ class Tree:
         if not os.path.exists(self.at("calls")):
             return 0
         with open(self.at("calls"), "rb") as file:
-            return file.read().count(b"call\n")
+            return file.read().count(b"ci\n")
 
 
 def check_builds(checks):
@@ -124,6 +169,8 @@ def check_builds(checks):
         checks.counts(name + ", how often", built, tree.calls())
 
     builds("nothing is built yet")
+    checks.counts("what is proved: no test, no edit, no other crate", SEEN, tree.said("seen"))
+    checks.counts("what is left of the copy", [], os.listdir(tree.at("copies")))
     os.utime(tree.at(source))
     os.utime(tree.at("crates.txt"))
     stays("newer times and the same text")
@@ -141,7 +188,7 @@ def check_builds(checks):
     tree.write("crates/puma_cli/src/more.rt", b"")
     os.utime(tree.at("crates/puma_cli/src/more.rt"), (1, 1))
     builds("an empty file more, with an old time", b"third")
-    tree.write("crates.txt", b"puma_cli: rack_text\n")
+    tree.write("crates.txt", b"puma_cli: low\nlow:\n")
     builds("another list of crates", b"third")
     tree.write("HANDLES", b"Handles allowed: none.\n")
     builds("another list of handles", b"third")
@@ -151,9 +198,8 @@ def check_builds(checks):
     builds("the program is gone", b"third")
     tree.write("crates/puma_cli/out/puma_cli", b"#!/bin/sh\necho of another build\n")
     builds("the program is another", b"third")
-    for kept in ("names", "sums"):
-        os.truncate(tree.at("crates/puma_cli/out/" + kept), 0)
-        builds(f"what it was made of is not known, {kept}", b"third")
+    os.truncate(tree.at("crates/puma_cli/out/made_of"), 0)
+    builds("what it was made of is not known", b"third")
     check_failed_builds(checks, tree, source)
     check_lacks(checks, tree, source)
     check_side_by_side(checks, tree, source)
@@ -162,8 +208,8 @@ def check_builds(checks):
 def check_failed_builds(checks, tree, source):
     tree.write(source, b"fourth")
     tree.write("broken", b"")
-    errors = b"error: this is the first\n and this its second line\n"
-    want = (125, b"", BUILDS + PROVED + errors + b"bin/puma: the program was not built\n")
+    errors = b"error: this is the first\n and this its second line\nrt: puma_cli NOT PROVED\n"
+    want = (125, b"", BUILDS + KEPT + errors + b"bin/puma: the program was not built\n")
     checks.answers("a build that fails", want, tree.run())
     checks.answers("a build that fails again", want, tree.run())
     os.remove(tree.at("broken"))
@@ -179,9 +225,9 @@ def check_failed_builds(checks, tree, source):
 def check_lacks(checks, tree, source):
     """Without what a build needs: one line and 125 where there is one to make, and none of it otherwise."""
     fresh, text = (0, b"fifth, more\n", b""), b"fifth, more"
-    for tool in ("rt", "flock", "cksum", "xargs"):
+    for tool in ("rt", "python3", "cksum", "sha256sum", "xargs"):
         os.rename(tree.at("tools/" + tool), tree.at("taken"))
-        if tool in ("rt", "flock"):
+        if tool in ("rt", "python3"):
             checks.answers(f"without {tool}, the program as it should be", fresh, tree.run())
         tree.write(source, b"stale")
         line = b"bin/puma: the program has to be built, and %s is not on the path\n" % tool.encode()

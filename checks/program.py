@@ -9,7 +9,9 @@ import threading
 
 TOP = os.path.dirname(os.path.dirname(os.path.abspath(__file__)))
 PUMA = os.path.join(TOP, "bin", "puma")
-PROGRAM = os.path.join(TOP, "crates", "puma_cli", "out", "puma_cli")
+# The program that `bin/puma` runs, or where it builds one.
+PROGRAM = subprocess.run(["sh", "-c", 'top=$1; . "$top/bin/made_of"; find_program; printf %s "${program:-$built}"', "sh", TOP],
+                         stdout=subprocess.PIPE, text=True, check=True).stdout
 DIRECTLY = (PROGRAM,)
 SECONDS = 60
 
