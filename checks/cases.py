@@ -20,6 +20,7 @@ import hijacks
 import launcher
 import memory
 import middleware
+import package
 import places
 import random_stacks
 import scripts
@@ -31,7 +32,7 @@ from wanted import ECHO, HELLO
 
 GROUPS = (
     scripts.check_scripts,
-    launcher.check_use, launcher.check_builds, dist.check_kept, dist.check_gate,
+    launcher.check_use, launcher.check_builds, dist.check_kept, dist.check_gate, package.check_package,
     words.check_words, words.check_options, words.check_help, words.check_files,
     documents.check_names,
     stacks.check_rules, stacks.check_written, stacks.check_arguments, stacks.check_file_sizes,
