@@ -28,6 +28,8 @@ BEGIN {
     headings["puma"] = "COMMANDS"
     headings["Flags"] = "OPTIONS"
     headings["A"] = "STACK FILES"
+    headings["Rules"] = "RULES"
+    headings["What"] = "DIAGNOSTICS"
     headings["Exit"] = "EXIT STATUS"
     headings["Documents,"] = "SEE ALSO"
 }
