@@ -42,8 +42,11 @@ def check_package(checks):
     if shutil.which("lintian") is None:
         checks.pass_over("lintian", "lintian is missing")
         return
-    # Where it runs as root it says so.
-    ran = run(["--no-cfg", "--fail-on", "error", package], program=("lintian",)) or (None, b"", b"")
+    ran = run(["--no-cfg", "--fail-on", "error", package], program=("lintian",))
+    if ran is None:
+        checks.pass_over("lintian", "it did not end in time")
+        return
+    # Where it runs as root it says so, on standard error.
     checks.counts("what lintian says", (0, []), (ran[0], re.findall(rb"(?m)^E: .*", ran[1] + ran[2])))
 
 
@@ -67,6 +70,9 @@ def check_manual(checks):
     plain = {**os.environ, "LC_ALL": "C", "MANWIDTH": "100", "MANPAGER": "cat", "PAGER": "cat"}
     status, page, errors = run(["-l", "--no-hyphenation", "--no-justification", os.path.join("unpacked", MANUAL)],
                                program=("man",), env=plain)
+    if b"minimized" in page:
+        checks.pass_over("the manual", "this system has none")
+        return
     checks.counts("man reads it", (0, b""), (status, errors))
     lines = [it.strip() for it in page.decode("ascii", "replace").split("\n")]
     lacking, at = [], 0
