@@ -11,8 +11,6 @@ mod pull;
 mod reason;
 mod sending;
 mod start;
-#[cfg(test)]
-mod tests;
 mod types;
 
 pub use fault::put_fault;

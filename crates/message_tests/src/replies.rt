@@ -3,11 +3,11 @@
 // What these functions hold when they end early is dropped there, and each such end has to be proved. So
 // hardly anything is held where one may end: each thing is made, changed and read by a function of its
 // own, and a test asks one.
-use crate::{After, Ask, Filled, Framer, put_fault};
 use circular_buffer::HeapCircularBuffer;
 use rack_types::{
     Answer, BodyRule, Bytes, Env, Fault, Headers, Input, Kind, NoMemory, Plain, Version,
 };
+use reply_framing::{After, Ask, Filled, Framer, put_fault};
 use std::alloc::Global;
 
 type Said = Answer<Plain, u8>;
