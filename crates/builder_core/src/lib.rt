@@ -12,8 +12,6 @@ mod runner;
 mod sending;
 mod stack;
 mod steps;
-#[cfg(test)]
-mod tests;
 
 pub use building::to_app;
 pub use runner::StackRunner;

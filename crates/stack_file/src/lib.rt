@@ -18,6 +18,3 @@ pub use fault::{FileFault, ReadFault};
 pub use laws::{what_is_read_is_built, written_steps_are_read_again};
 pub use reading::read;
 pub use writing::write;
-
-#[cfg(test)]
-mod tests;

@@ -17,6 +17,3 @@ pub use app::App;
 pub use laws::bad_breaks_its_rule;
 pub use texts::Texts;
 pub use words::WordsFault;
-
-#[cfg(test)]
-mod tests;

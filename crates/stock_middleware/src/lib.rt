@@ -9,8 +9,6 @@ mod lint;
 mod overriding;
 mod reply;
 mod sending;
-#[cfg(test)]
-mod tests;
 mod undo;
 mod ware;
 

@@ -7,8 +7,8 @@ mod apps;
 
 ghost use Rattle.std.specs.Prelude.{◌≡◌, ◌+◌, ◌<◌, IfOk};
 
-use crate::{BuildFault, Line, Stack, StackRunner, Steps, to_app};
 use apps::{Counted, Says, steps};
+use builder_core::{BuildFault, Line, Stack, StackRunner, Steps, to_app};
 use rack_types::{Answer, Body, Bytes, Endpoint, Env, Headers, Input, NoMemory, Runner, Step};
 use std::alloc::Global;
 use std::cell::Cell;

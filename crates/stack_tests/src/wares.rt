@@ -8,10 +8,10 @@ mod methods;
 mod others;
 mod replies;
 
-use crate::{Ware, WareBody};
 use rack_text::write_decimal;
 use rack_types::{Answer, Body, Bytes, Env, Headers, Input, Kind, NoMemory, Plain, Step};
 use std::alloc::Global;
+use stock_middleware::{Ware, WareBody};
 
 type Said = Answer<WareBody<Plain>, u8>;
 

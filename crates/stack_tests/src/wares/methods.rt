@@ -1,8 +1,8 @@
 // Which method a request gets.
 use super::{env_of, put, with};
-use crate::Ware;
 use rack_types::{Env, NoMemory};
 use std::alloc::Global;
+use stock_middleware::Ware;
 
 // A method, CONTENT_TYPE and the header, each where it isn't empty; a body; and the method that comes of it.
 struct Asked {

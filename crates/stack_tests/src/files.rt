@@ -1,7 +1,7 @@
 // What each rule refuses, at its boundaries, and what is written of what was read.
-use crate::{ReadFault, read, write};
 use rack_text::write_decimal;
 use rack_types::NoMemory;
+use stack_file::{ReadFault, read, write};
 use std::alloc::Global;
 use std::test::Fail;
 

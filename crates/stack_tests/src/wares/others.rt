@@ -3,9 +3,9 @@ use super::{
     Said, Which, after, after_text, bytes_of, env_of, headers_of, no_pairs, put, put_number, reply,
     reply_of, shown, ware_of, with,
 };
-use crate::{WareBody, put_back, set_saved};
 use rack_types::{Answer, Env, Kind, NoMemory, Plain};
 use std::alloc::Global;
+use stock_middleware::{WareBody, put_back, set_saved};
 
 // An answer that was raised, one that was taken, and a reply that would be taken over behind its head.
 enum Kept {

@@ -5,7 +5,7 @@ ghost use Rattle.rack_types.specs.declared.answer.Answer.TheVariants.{Reply, Rai
 ghost use Rattle.rack_types.specs.declared.body.Kind.TheVariants.{Enumerable};
 ghost use Rattle.builder_core.specs.Places.{path_of, value_or_empty};
 
-use crate::{Line, Steps};
+use builder_core::{Line, Steps};
 use rack_types::{Answer, Body, Bytes, Endpoint, Env, Headers, Kind, NoMemory, Plain, Step};
 use std::alloc::Global;
 use std::cell::Cell;

@@ -1,10 +1,10 @@
 // What each endpoint answers, written down; what the clauses say of it is worked beside the definitions.
-use crate::{App, Texts, WordsFault};
 use hijack_core::{Hijack, StockHijack};
 use rack_text::write_decimal;
 use rack_types::{Answer, Body, Bytes, Endpoint, Env, Headers, Input, Kind, NoMemory, Plain, Step};
 use std::alloc::Global;
 use std::test::Fail;
+use stock_apps::{App, Texts, WordsFault};
 
 // The request that is asked: a few pairs, and this input.
 fn asked(alloc: Global, input: &[u8]) -> Result<Env, NoMemory> {
