@@ -7,8 +7,6 @@ mod never;
 mod sending;
 mod stock;
 mod stock_hijack;
-#[cfg(test)]
-mod tests;
 
 pub use hijack::{Hijack, Said};
 pub use never::Never;

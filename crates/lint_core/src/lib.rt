@@ -12,6 +12,3 @@ pub use answer_rules::{check_head, check_taken};
 pub use env_rules::check_env;
 pub use rack_types::{BodyRule, EnvRule, Rule, Set};
 pub use watch::BodyWatch;
-
-#[cfg(test)]
-mod tests;

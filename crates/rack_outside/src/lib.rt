@@ -10,8 +10,6 @@ mod clock;
 mod files;
 mod keys;
 mod link;
-#[cfg(test)]
-mod link_tests;
 mod mem_files;
 mod mem_link;
 mod mem_sink;
@@ -25,11 +23,7 @@ mod source;
 mod sure_link;
 mod sure_sink;
 mod sure_source;
-#[cfg(test)]
-mod tests;
 mod touch;
-#[cfg(test)]
-mod watch_tests;
 mod watcher;
 
 pub use clock::{Clock, MemClock};

@@ -18,6 +18,3 @@ pub use laws::escaped_text_is_read_again;
 pub use list::{ListElements, elements, list_has};
 pub use number::{put_hex, write_decimal, write_hex};
 pub use word::{is_token, same_ignoring_case};
-
-#[cfg(test)]
-mod tests;

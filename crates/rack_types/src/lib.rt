@@ -20,8 +20,6 @@ mod rules;
 mod runner;
 mod sending;
 mod table;
-#[cfg(test)]
-mod tests;
 
 pub use answer::Answer;
 pub use body::{Body, Kind, Step};

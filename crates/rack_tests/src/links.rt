@@ -1,5 +1,5 @@
 // Each link, through its trait. What a call gave is written down, with a bar behind it.
-use crate::{Link, LinkRead, LinkWrite, MemLink, PairLink, SureLink, SureSink, SureSource};
+use rack_outside::{Link, LinkRead, LinkWrite, MemLink, PairLink, SureLink, SureSink, SureSource};
 use rack_types::{Bytes, NoMemory};
 use std::alloc::Global;
 use std::test::Fail;

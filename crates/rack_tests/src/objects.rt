@@ -1,5 +1,5 @@
 // Each object in memory, through its trait. What a call gave is written down, with a bar behind it.
-use crate::{
+use rack_outside::{
     FileRead, Files, MemFiles, MemSink, MemSource, Sink, SinkWrite, Source, SourceRead, SureSink,
     SureSource,
 };

@@ -1,5 +1,5 @@
 // Each call once. The boundaries of the rules, and pairs of them, are worked out beside their definitions.
-use crate::*;
+use lint_core::*;
 use rack_types::{Bytes, Env, Headers, Input, NoMemory};
 use std::alloc::Global;
 

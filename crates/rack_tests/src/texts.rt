@@ -1,6 +1,6 @@
 // Words, numbers and hosts as tables. A test asks one function for the first row at which something else
 // comes: that is proved faster than a table that stands in a test.
-use super::*;
+use rack_text::*;
 use std::alloc::{AllocError, Global};
 
 const NUMBERS: [(&str, Option<u128>); 18] = [

@@ -6,8 +6,8 @@ ghost use Rattle.rack_types.specs.declared.body.Kind.TheVariants.{Enumerable, St
 ghost use Rattle.rack_types.specs.Answer.{told};
 ghost use Rattle.rack_types.specs.Plain.{plain_content};
 
-use crate::*;
 use http_server::Log;
+use rack_types::*;
 use std::alloc::Global;
 use std::convert::Infallible;
 

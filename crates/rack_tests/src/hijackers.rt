@@ -2,7 +2,7 @@
 //
 // What these functions hold when they end early is dropped there, and each such end has to be proved. So
 // hardly anything is held where one may end.
-use crate::{Hijack, Said, Stock};
+use hijack_core::{Hijack, Said, Stock};
 use rack_types::NoMemory;
 use std::alloc::Global;
 use std::test::Fail;

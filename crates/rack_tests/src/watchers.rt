@@ -2,7 +2,9 @@
 ghost use Rattle.std.specs.Prelude.{◌≡◌, true, false, cond};
 ghost use Rattle.rack_outside.specs.Wire.{with_more};
 
-use crate::{Clock, Keys, Link, MemClock, MemWatcher, SureLink, Touch, Waited, Watcher};
+use rack_outside::{
+    Clock, Keys, Link, LinkRead, MemClock, MemWatcher, SureLink, Touch, Waited, Watcher,
+};
 use rack_types::{Bytes, NoMemory};
 use std::alloc::Global;
 use std::test::Fail;
@@ -45,7 +47,7 @@ fn a_touch_gives_a_link_bytes(rt: HostRuntime) -> Result<(), NoMemory> {
     let text = Bytes::new(Vec::from_slice(rt.alloc(), b"abc")?);
     assert!(rt; touches(&mut link, &mut Gives { text }));
     let mut room = [0u8; 8];
-    assert_eq!(rt; link.read(&mut room), crate::LinkRead::Bytes(3));
+    assert_eq!(rt; link.read(&mut room), LinkRead::Bytes(3));
     Ok(())
 }
 
