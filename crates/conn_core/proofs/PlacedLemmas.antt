@@ -6,7 +6,6 @@ use Rattle.rack_types.specs.declared.peer.Local.{Local}
 use Rattle.rack_env.specs.Environment.{env_pairs}
 use Rattle.rack_outside.specs.Link.{Seen}
 use Rattle.message_framing.specs.HeadText.{skipped}
-use Rattle.message_framing.specs.Request.{Begun}
 use Rattle.message_framing.proofs.CallerLemmas.{wanting_nil}
 use Rattle.talk_core.specs.declared.ended.Life.{Life}
 use Rattle.talk_core.specs.Ended.{Shows}
@@ -18,7 +17,7 @@ use Rattle.conn_core.specs.declared.inside.Inside.{Inside}
 use Rattle.conn_core.specs.declared.place.At.{At}
 use Rattle.conn_core.specs.declared.place.At.TheVariants as at
 use Rattle.conn_core.specs.Answered.{HasAnswered}
-use Rattle.conn_core.specs.Holds.{Kept, kept, Between, HoldsAt, StandsAt, HoldsBy}
+use Rattle.conn_core.specs.Holds.{Kept, kept, HoldsAt, StandsAt, HoldsBy}
 use Rattle.conn_core.specs.Owner.{IsUnread, IsIdle, MayPlace, HasRoomFor, IsNoneAbove, placed}
 use Rattle.conn_core.specs.Shown.{Shown, shows}
 use Rattle.conn_core.proofs.MoveLemmas.{reading_place}

@@ -13,7 +13,7 @@ use Rattle.talk_core.specs.declared.ended.Why.TheVariants as why
 use Rattle.talk_core.specs.Stands.{Word, asked_by, silent, replies, refuses, times_out, hands_over, Stands, ClosesAt}
 use Rattle.talk_core.specs.Tail.{Voice}
 use Rattle.talk_core.specs.Talk.{Asks, replies_to}
-use Rattle.talk_core.specs.Teller.{Stacks, Teller, tell, last_phase}
+use Rattle.talk_core.specs.Teller.{Teller, last_phase}
 use Rattle.conn_core.specs.declared.inside.Inside.{Inside}
 use Rattle.conn_core.specs.declared.moments.Ending.{Ending}
 use Rattle.conn_core.specs.declared.moments.Late.{Late}
@@ -21,11 +21,9 @@ use Rattle.conn_core.specs.declared.place.At.{At}
 use Rattle.conn_core.specs.declared.place.At.TheVariants as at
 use Rattle.conn_core.specs.declared.state.State.TheVariants as state
 use Rattle.conn_core.specs.Holds.{Kept, kept, Between, Refuses, HoldsAt, StandsAt, HoldsBy}
-use Rattle.conn_core.specs.Owner.{IsUnread}
 use Rattle.conn_core.specs.Place.{state_at}
-use Rattle.conn_core.specs.Shown.{Shown, shows, owed_at}
+use Rattle.conn_core.specs.Shown.{owed_at}
 use Rattle.conn_core.proofs.ConnLemmas.{Part, PartOf, live_part}
-use Rattle.conn_core.proofs.RetellLemmas.{retold}
 
 pub none_before : (xs ys : List ℕ) → [] ≡ xs ++ ys → xs ≡ []
 none_before xs ys e =

@@ -1,4 +1,4 @@
-use Rattle.std.proofs.Common.{◌≡◌, true, sym, ◌∙◌, inl, inr}
+use Rattle.std.proofs.Common.{sym, ◌∙◌, inl, inr}
 use Rattle.std.proofs.lemmas.Bool.{false≢true}
 use Rattle.conn_core.proofs.RoomLemmas.{above_front, kept_test, more_test, above_test}
 use Rattle.conn_core.proofs.owner.has_place.Goals as goal

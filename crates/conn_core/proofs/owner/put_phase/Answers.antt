@@ -1,4 +1,4 @@
-use Rattle.std.proofs.Common.{◌≡◌, ◌<◌, ◌≤◌, List, [], ◌∷◌, ◌++◌, Bool, if◌then◌else◌, ◌∙◌, ap, arith, vec_capacity, length}
+use Rattle.std.proofs.Common.{[], ◌∷◌, ◌++◌, Bool, if◌then◌else◌, ◌∙◌, ap, arith}
 use Rattle.talk_core.specs.declared.ended.Life.{Life}
 use Rattle.conn_core.proofs.PlacingLemmas.{IsLast, last_same, last_more, last_room, last_unused}
 use Rattle.conn_core.proofs.owner.put_phase.Goals as goal
