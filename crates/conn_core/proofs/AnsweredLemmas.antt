@@ -31,22 +31,25 @@ use Rattle.talk_core.specs.Talk.{Asks, wanting, hijacked, replies_to}
 use Rattle.talk_core.specs.Teller.{Stack, Teller, ask_of, is_last}
 use Rattle.talk_core.proofs.CallerLemmas.{asked_same, from_before, silent_sent, silent_asks, part_asked, whole_asked, part_sent, whole_sent_of, timed_sent, handed_sent, sent_since}
 use Rattle.conn_core.specs.declared.conn.Conn.{Conn}
-use Rattle.conn_core.specs.declared.moments.Ending.{Ending}
-use Rattle.conn_core.specs.declared.place.At.{At}
-use Rattle.conn_core.specs.declared.place.At.TheVariants as at
-use Rattle.conn_core.specs.declared.state.Next.{Next}
-use Rattle.conn_core.specs.declared.state.State.TheVariants as state
+use Rattle.conn_steps.specs.declared.moments.Ending.{Ending}
+use Rattle.conn_steps.specs.declared.at.At.{At}
+use Rattle.conn_steps.specs.declared.at.At.TheVariants as at
+use Rattle.conn_steps.specs.declared.state.Next.{Next}
+use Rattle.conn_steps.specs.declared.state.State.TheVariants as state
 use Rattle.conn_core.specs.Calls.{Turns}
-use Rattle.conn_core.specs.Holds.{Kept, kept, past, Between, HoldsAt, HoldsWith}
-use Rattle.conn_core.specs.Keeps.{reaching}
-use Rattle.conn_core.specs.Moves.{Move, Run, Refusal, Want, Read, Write, Point, MakesMove, Goes, ring_room}
-use Rattle.conn_core.specs.Place.{state_at}
-use Rattle.conn_core.specs.Plain.{EndsPlainly, EndsOver}
-use Rattle.conn_core.specs.Ran.{Ran, HoldsAny, AskedAt}
-use Rattle.conn_core.specs.Shown.{Shown, shown, link_of}
-use Rattle.conn_core.proofs.ConnLemmas.{Part, live_part}
-use Rattle.conn_core.proofs.MovedLemmas.{appended_more}
-use Rattle.conn_core.proofs.ShownLemmas.{appended_nil}
+use Rattle.conn_steps.specs.Holds.{Kept, kept, past, Between, HoldsAt}
+use Rattle.conn_core.specs.Holds.{HoldsWith}
+use Rattle.conn_steps.specs.Keeps.{reaching}
+use Rattle.conn_steps.specs.Moves.{Move, Run, Refusal, Want, Read, Write, Point, MakesMove, Goes, ring_room}
+use Rattle.conn_steps.specs.At.{state_at}
+use Rattle.conn_steps.specs.Plain.{EndsPlainly, EndsByReplies}
+use Rattle.conn_steps.specs.Ran.{Ran, AskedAt}
+use Rattle.conn_core.specs.Ran.{HoldsAny}
+use Rattle.conn_steps.specs.Shown.{Shown}
+use Rattle.conn_core.specs.Shown.{shown, link_of}
+use Rattle.conn_steps.proofs.CallerLemmas.{Part, live_part}
+use Rattle.conn_core.proofs.PartsOfCalls.{appended_more}
+use Rattle.conn_steps.proofs.CallerLemmas.{appended_nil}
 
 -- at any place it stands in part, or it ended
 place_cases : {B H : Type 0} (V : Voice H) (T : Teller H) (s : Seen) (over : Bool) (given sent : List ℕ) (c : Kept) (a : At B H)
@@ -60,7 +63,7 @@ place_cases {B} {H} V T s over given sent c (at.Answering f) h = inl (_, live_pa
 place_cases {B} {H} V T s over given sent c (at.Writing keeps) h = inl (_, live_part {B = B} (at.Writing keeps) V T s over given sent c (λ e. cc) h)
 place_cases {B} {H} V T s over given sent c (at.Handing x) h = inl (_, live_part {B = B} (at.Handing x) V T s over given sent c (λ e. cc) h)
 place_cases {B} {H} V T s over given sent c at.Refusing h = inl (_, live_part {B = B} at.Refusing V T s over given sent c (λ e. cc) h)
-place_cases {B} {H} V T s over given sent c (at.Taken x) h = inl (_, live_part {B = B} (at.Taken x) V T s over given sent c (λ e. cc) h)
+place_cases {B} {H} V T s over given sent c (at.Listening x) h = inl (_, live_part {B = B} (at.Listening x) V T s over given sent c (λ e. cc) h)
 place_cases {B} {H} V T s over given sent c (at.Speaking x) h = inl (_, live_part {B = B} (at.Speaking x) V T s over given sent c (λ e. cc) h)
 place_cases {B} {H} V T s over given sent c at.Parting h = inl (_, live_part {B = B} at.Parting V T s over given sent c (λ e. cc) h)
 place_cases {B} {H} V T s over given sent c (at.Over w) h = inr (w, h)
@@ -156,7 +159,7 @@ module _ {L B H : Type 0} {g : Ghosts B} (seen : L → Seen) (V : Voice H) (IsFi
 
   -- its end, by the lives and the end over any replies that `finish` tells
   pub any_finished : (c : Conn L B H g) (e : Ended L) → e.calls ≡ (shown c).calls → e.lives.items ≡ (shown c).lives → e.closing ≡ (shown c).ending.closing
-      → HoldsAny seen V IsFit c → ((T : Teller H) → HoldsWith seen V T c → EndsOver L seen V T (shown c).peer (shown c).ending e)
+      → HoldsAny seen V IsFit c → ((T : Teller H) → HoldsWith seen V T c → EndsByReplies L seen V T (shown c).peer (shown c).ending e)
       → IsEndedAsked L seen (shown c).peer e
   any_finished c e calls lives closing h ends =
       let o = shown c in
@@ -164,7 +167,7 @@ module _ {L B H : Type 0} {g : Ghosts B} (seen : L → Seen) (V : Voice H) (IsFi
       let T : Teller H = tell_by a o.local o.peer o.ending.closing in
       let U : Teller H = tell_by a o.local o.peer e.closing in
       let is : T ≡ U = ap (λ (x : Option ℕ). tell_by a o.local o.peer x) (sym closing) in
-      let x : EndsOver L seen V U o.peer o.ending e = subst (λ (W : Teller H). EndsOver L seen V W o.peer o.ending e) is (ends T h.stands) in
+      let x : EndsByReplies L seen V U o.peer o.ending e = subst (λ (W : Teller H). EndsByReplies L seen V W o.peer o.ending e) is (ends T h.stands) in
       let p : Past = past_of (seen e.link) e x.given x.sent x.over in
       let none : (k : ℕ) → k < e.calls → (r : Parts) → (U k r).after ≢ Hijack =
       hands_none a o.local o.peer e.closing e.calls (λ k lt. nobody (a k) (h.fit k (omega (arith, lt, calls)))) in
@@ -233,11 +236,11 @@ ready_sent {B} {H} V T s over given sent c a tells_given tells_sent ready h = go
       tells_given = tells_given;
       tells_sent = tells_sent;
       requests = b.stands.whole;
-      rest = now ++ c.held;
-      asks = silent_asks V T over given sent (now ++ c.held) c.calls b.stands;
+      rest = now ++ c.unfed;
+      asks = silent_asks V T over given sent (now ++ c.unfed) c.calls b.stands;
       count = b.stands.count;
       keeps = b.stands.keeps;
-      sent_is = silent_sent V T over given sent (now ++ c.held) c.calls b.stands;
+      sent_is = silent_sent V T over given sent (now ++ c.unfed) c.calls b.stands;
     }
 
     go : (x : At B H) → state_at x ≡ state.Ready → HoldsAt x V T s over given sent c → SentUpTo T s c.calls
@@ -248,7 +251,7 @@ ready_sent {B} {H} V T s over given sent c a tells_given tells_sent ready h = go
     go (at.Writing keeps) e k = cc
     go (at.Handing x) e k = cc
     go at.Refusing e k = cc
-    go (at.Taken x) e k = cc
+    go (at.Listening x) e k = cc
     go (at.Speaking x) e k = cc
     go at.Parting e k = cc
     go (at.Over w) e k = cc

@@ -20,22 +20,25 @@ use Rattle.talk_core.specs.Tail.{Voice}
 use Rattle.talk_core.specs.Teller.{Stack, Stacks, Teller, tell}
 use Rattle.talk_core.proofs.CallerLemmas.{lives_later, placed_are, joined, joined_below, joined_from, from_joined}
 use Rattle.conn_core.specs.declared.conn.Conn.{Conn}
-use Rattle.conn_core.specs.declared.inside.Inside.{Inside}
-use Rattle.conn_core.specs.declared.moments.Ending.{Ending}
-use Rattle.conn_core.specs.declared.state.Next.{Next}
-use Rattle.conn_core.specs.declared.state.State.{State}
-use Rattle.conn_core.specs.declared.state.State.TheVariants as state
-use Rattle.conn_core.specs.declared.state.Tick.{Tick}
-use Rattle.conn_core.specs.declared.state.Tick.TheVariants as tick
+use Rattle.conn_steps.specs.declared.inside.Inside.{Inside}
+use Rattle.conn_steps.specs.declared.moments.Ending.{Ending}
+use Rattle.conn_steps.specs.declared.state.Next.{Next}
+use Rattle.conn_steps.specs.declared.state.State.{State}
+use Rattle.conn_steps.specs.declared.state.State.TheVariants as state
+use Rattle.conn_steps.specs.declared.state.Tick.{Tick}
+use Rattle.conn_steps.specs.declared.state.Tick.TheVariants as tick
 use Rattle.conn_core.specs.Calls.{Feeds, Flushes, Turns}
-use Rattle.conn_core.specs.Holds.{kept, Holds, HoldsWith}
-use Rattle.conn_core.specs.Keeps.{no_bytes, reaching}
-use Rattle.conn_core.specs.Opened.{opened}
-use Rattle.conn_core.specs.Owner.{HasRoomFor, IsNoneAbove, placed, Ticks, ended_as, late_as, drained, drained_from, drained_in, drained_reading, drained_hijacked}
-use Rattle.conn_core.specs.Ran.{Ran, HoldsAny}
-use Rattle.conn_core.specs.Shown.{Shown, shown, link_of}
-use Rattle.conn_core.proofs.RanLemmas.{no_answers}
-use Rattle.conn_core.proofs.RetellLemmas.{retold}
+use Rattle.conn_steps.specs.Holds.{kept}
+use Rattle.conn_core.specs.Holds.{Holds, HoldsWith}
+use Rattle.conn_steps.specs.Keeps.{no_bytes, reaching}
+use Rattle.conn_steps.specs.Opened.{opened}
+use Rattle.conn_steps.specs.Owner.{HasRoomFor, IsNoneAbove, placed, Ticks, ended_as, late_as, drained, drained_from, drained_in, drained_reading, drained_hijacked}
+use Rattle.conn_steps.specs.Ran.{Ran}
+use Rattle.conn_core.specs.Ran.{HoldsAny}
+use Rattle.conn_steps.specs.Shown.{Shown}
+use Rattle.conn_core.specs.Shown.{shown, link_of}
+use Rattle.conn_steps.proofs.CallerLemmas.{no_answers}
+use Rattle.conn_steps.proofs.CallerLemmas.{retold}
 use Rattle.conn_core.proofs.TurnLemmas.{last_before}
 
 -- both sides, the lives, how many requests were run, and which reply closes by draining are as before
@@ -105,7 +108,7 @@ drained_ground level c = from c.taken
     reading None = room (nat_lt (length c.lives) lives_limit)
     reading (Some since) = as_here
 
-    handed : (b : Bool) → SameGround c (drained_hijacked b (record d { ending = record d.ending { left = true } }))
+    handed : (b : Bool) → SameGround c (drained_hijacked b (record d { ending = record d.ending { dismissed = true } }))
     handed true = record { local = refl; peer = refl; lives = refl; calls = refl; closing = refl }
     handed false = record { local = refl; peer = refl; lives = refl; calls = refl; closing = refl }
 

@@ -17,26 +17,28 @@ use Rattle.rack_types.specs.Body.{Content}
 use Rattle.rack_types.specs.Env.{Pairs}
 use Rattle.rack_env.specs.Environment.{env_pairs}
 use Rattle.reply_framing.specs.Reply.{reply}
-use Rattle.conn_core.specs.Owner.{IsUnread, HasRoomFor, IsNoneAbove, placed}
-use Rattle.conn_core.proofs.RetellLemmas.{retold}
-use Rattle.conn_core.proofs.UnreadLemmas.{unread}
+use Rattle.conn_steps.specs.Owner.{IsUnread, HasRoomFor, IsNoneAbove, placed}
+use Rattle.conn_steps.proofs.CallerLemmas.{retold}
+use Rattle.conn_steps.proofs.CallerLemmas.{unread}
 use Rattle.conn_core.specs.declared.conn.Conn.{Conn}
-use Rattle.conn_core.specs.declared.moments.Ending.{Ending}
-use Rattle.conn_core.specs.declared.place.At.{At}
-use Rattle.conn_core.specs.declared.place.At.TheVariants as at
-use Rattle.conn_core.specs.declared.state.State.{State}
-use Rattle.conn_core.specs.declared.state.State.TheVariants as state
-use Rattle.conn_core.specs.Holds.{kept, Holds, HoldsAt}
-use Rattle.conn_core.specs.Place.{state_at}
-use Rattle.conn_core.specs.Plain.{EndsPlainly}
-use Rattle.conn_core.specs.Rests.{RestsAt}
-use Rattle.conn_core.specs.Shown.{Shown, Moved, shown, link_of, why_at}
-use Rattle.conn_core.proofs.ShownLemmas.{counted_sum}
-use Rattle.conn_core.proofs.ConnLemmas.{live_part}
-use Rattle.conn_core.proofs.MovedLemmas.{moved_same}
+use Rattle.conn_steps.specs.declared.moments.Ending.{Ending}
+use Rattle.conn_steps.specs.declared.at.At.{At}
+use Rattle.conn_steps.specs.declared.at.At.TheVariants as at
+use Rattle.conn_steps.specs.declared.state.State.{State}
+use Rattle.conn_steps.specs.declared.state.State.TheVariants as state
+use Rattle.conn_steps.specs.Holds.{kept, HoldsAt}
+use Rattle.conn_core.specs.Holds.{Holds}
+use Rattle.conn_steps.specs.At.{state_at}
+use Rattle.conn_steps.specs.Plain.{EndsPlainly}
+use Rattle.conn_steps.specs.Rests.{RestsAt}
+use Rattle.conn_steps.specs.Shown.{Shown, Moved, why_at}
+use Rattle.conn_core.specs.Shown.{shown, link_of}
+use Rattle.conn_steps.proofs.CallerLemmas.{counted_sum}
+use Rattle.conn_steps.proofs.CallerLemmas.{live_part}
+use Rattle.conn_core.proofs.PartsOfCalls.{moved_same}
 use Rattle.conn_core.proofs.WhyLemmas.{no_why_at}
-pub use Rattle.conn_core.proofs.ConnLemmas.{Part}
-pub use Rattle.conn_core.proofs.MovedLemmas.{moved_then, ends_then}
+pub use Rattle.conn_steps.proofs.CallerLemmas.{Part}
+pub use Rattle.conn_core.proofs.PartsOfCalls.{moved_then, ends_then}
 pub use Rattle.conn_core.proofs.WithinLemmas.{feed_moments, turn_moments, flush_moments, moments_same, moments_then, kept_from, within_then, feed_within, turn_within, flush_within, tick_within, ended_within, drained_within, placed_within}
 pub use Rattle.conn_core.proofs.TransferLemmas.{feed_transfer, turn_transfer, flush_transfer, tick_transfer, opened_transfer, placed_transfer, drained_transfer, drained_keeps, transfer_unmarked, transfer_marked, transfer_within}
 pub use Rattle.conn_core.proofs.LevelLemmas.{transfer_told, told_more, feed_told, turn_told, flush_told, tick_told, ended_told, drained_told, placed_told, no_drain}
@@ -57,24 +59,24 @@ taken_by (suc n) t fits = let some : 0 < suc n = omega arith in counted_sum (suc
 pub unended : {L B H : Type 0} {g : Ghosts B} (c : Conn L B H g) (s : State) → (shown c).state ≡ s → s ≢ state.Over → (shown c).why ≡ None
 unended {L} {B} {H} {g} c s e h = no_why_at c.inside.value.at s e h
 
-few_at : {B H : Type 0} (a : At B H) (intake : Intake) (held ring : List ℕ) (calls : ℕ) (m : Ending) → RestsAt a intake held ring calls m
+few_at : {B H : Type 0} (a : At B H) (intake : Intake) (unfed ring : List ℕ) (calls : ℕ) (m : Ending) → RestsAt a intake unfed ring calls m
     → state_at a ≡ state.Ready → calls < 10000
-few_at {B} {H} at.Reading intake held ring calls m h e = cc
-few_at {B} {H} at.Asked intake held ring calls m h e = h.1.0
-few_at {B} {H} (at.Refused f) intake held ring calls m h e = h.1.0
-few_at {B} {H} (at.Answering f) intake held ring calls m h e = cc
-few_at {B} {H} (at.Writing keeps) intake held ring calls m h e = cc
-few_at {B} {H} (at.Handing x) intake held ring calls m h e = cc
-few_at {B} {H} at.Refusing intake held ring calls m h e = cc
-few_at {B} {H} (at.Taken x) intake held ring calls m h e = cc
-few_at {B} {H} (at.Speaking x) intake held ring calls m h e = cc
-few_at {B} {H} at.Parting intake held ring calls m h e = cc
-few_at {B} {H} (at.Over w) intake held ring calls m h e = cc
+few_at {B} {H} at.Reading intake unfed ring calls m h e = cc
+few_at {B} {H} at.Asked intake unfed ring calls m h e = h.1.0
+few_at {B} {H} (at.Refused f) intake unfed ring calls m h e = h.1.0
+few_at {B} {H} (at.Answering f) intake unfed ring calls m h e = cc
+few_at {B} {H} (at.Writing keeps) intake unfed ring calls m h e = cc
+few_at {B} {H} (at.Handing x) intake unfed ring calls m h e = cc
+few_at {B} {H} at.Refusing intake unfed ring calls m h e = cc
+few_at {B} {H} (at.Listening x) intake unfed ring calls m h e = cc
+few_at {B} {H} (at.Speaking x) intake unfed ring calls m h e = cc
+few_at {B} {H} at.Parting intake unfed ring calls m h e = cc
+few_at {B} {H} (at.Over w) intake unfed ring calls m h e = cc
 
 -- where a request stands, fewer than 10,000 were run
 pub few_calls : {L B H : Type 0} {g : Ghosts B} (c : Conn L B H g) → (shown c).state ≡ state.Ready → (shown c).calls < 10000
 few_calls {L} {B} {H} {g} c e =
-    let p = c.inside.value in few_at p.at p.intake p.held p.ring.items p.calls p.ending p.rests e
+    let p = c.inside.value in few_at p.at p.intake p.unfed p.ring.items p.calls p.ending p.rests e
 
 over_at : {B H : Type 0} (a : At B H) (w : Why) → why_at a ≡ Some w → a ≡ at.Over w
 over_at {B} {H} at.Reading w e = cc
@@ -84,7 +86,7 @@ over_at {B} {H} (at.Answering f) w e = cc
 over_at {B} {H} (at.Writing keeps) w e = cc
 over_at {B} {H} (at.Handing h) w e = cc
 over_at {B} {H} at.Refusing w e = cc
-over_at {B} {H} (at.Taken h) w e = cc
+over_at {B} {H} (at.Listening h) w e = cc
 over_at {B} {H} (at.Speaking h) w e = cc
 over_at {B} {H} at.Parting w e = cc
 over_at {B} {H} (at.Over v) w e = cc

@@ -3,23 +3,24 @@ use Rattle.std.proofs.Common.{◌≡◌, ◌≢◌, ◌↔◌, ℕ, ◌+◌, ◌
 use Rattle.rack_outside.specs.Link.{Seen}
 use Rattle.rack_outside.specs.Told.{Rose}
 use Rattle.talk_core.specs.declared.ended.Why.{Why}
-use Rattle.conn_core.specs.declared.left.Said.{Said}
-use Rattle.conn_core.specs.declared.left.Said.TheVariants as said
-use Rattle.conn_core.specs.declared.moments.Late.{Late}
-use Rattle.conn_core.specs.declared.place.At.{At}
-use Rattle.conn_core.specs.declared.state.Next.{Next}
-use Rattle.conn_core.specs.declared.state.Next.TheVariants as next
-use Rattle.conn_core.specs.declared.state.State.{State}
-use Rattle.conn_core.specs.declared.state.State.TheVariants as state
+use Rattle.conn_steps.specs.declared.budget.SayStep.{SayStep}
+use Rattle.conn_steps.specs.declared.budget.SayStep.TheVariants as said
+use Rattle.conn_steps.specs.declared.moments.Late.{Late}
+use Rattle.conn_steps.specs.declared.at.At.{At}
+use Rattle.conn_steps.specs.declared.state.Next.{Next}
+use Rattle.conn_steps.specs.declared.state.Next.TheVariants as next
+use Rattle.conn_steps.specs.declared.state.State.{State}
+use Rattle.conn_steps.specs.declared.state.State.TheVariants as state
 use Rattle.conn_core.specs.Answers.{FlushedSo}
-use Rattle.conn_core.specs.Calls.{TurnEnds, RestsBehind, IsListening, Leaves, IsStillOwing, FlushTells, Flushes, IsOfFlush}
-use Rattle.conn_core.specs.Inner.{writes_of, SaysOn, SaidLeaves, Says}
-use Rattle.conn_core.specs.Keeps.{Drains}
-use Rattle.conn_core.specs.Moves.{IsOwing}
-use Rattle.conn_core.specs.Place.{IsSaying, IsHearing, state_at}
-use Rattle.conn_core.specs.Shown.{Shown, Moved}
-use Rattle.conn_core.proofs.MovingLemmas.{FlushMade}
-use Rattle.conn_core.proofs.MovedLemmas.{moved_same, moved_then, ends_then, drains_same, drains_then}
+use Rattle.conn_steps.specs.Ends.{TurnEnds, RestsBehind, IsOfFlush}
+use Rattle.conn_core.specs.Calls.{IsListening, Leaves, IsStillOwing, FlushTells, Flushes}
+use Rattle.conn_steps.specs.Inner.{writes_of, SaysOn, SaidLeaves, Says}
+use Rattle.conn_steps.specs.Keeps.{Drains}
+use Rattle.conn_steps.specs.Moves.{IsOwing}
+use Rattle.conn_steps.specs.At.{IsSaying, IsHearing, state_at}
+use Rattle.conn_steps.specs.Shown.{Shown, Moved}
+use Rattle.conn_core.proofs.MovesOfCalls.{FlushMade}
+use Rattle.conn_core.proofs.PartsOfCalls.{moved_same, moved_then, ends_then, drains_same, drains_then}
 use Rattle.conn_core.proofs.WhyLemmas.{owing_live}
 use Rattle.conn_core.proofs.TurnLemmas.{IsBelow, says_rests}
 
@@ -52,7 +53,7 @@ flushing_start o s owing none =
       rests = elim owing [
         | inl saying ↦ subst (λ (b : State). Leaves b o o) (sym saying)
             (subst (λ (b : State). RestsBehind b o.replied o.replied) (sym saying) within)
-        | inr held ↦ subst (λ (b : State). Leaves b o o) (sym held.0) (λ e. refl, inl held.0)
+        | inr unfed ↦ subst (λ (b : State). Leaves b o o) (sym unfed.0) (λ e. refl, inl unfed.0)
       ];
       drains = drains_same o o refl;
       why = subst IsOfFlush (sym none) tt;
@@ -70,7 +71,7 @@ held_on state.Over r q on = (λ e. cc, inr refl)
 
 -- it had it before a write where something was owed
 held_still : (m : Shown) → (m.state ≡ state.Hijacked) ⊎ (m.state ≡ state.Over) → IsOwing m → m.state ≡ state.Hijacked
-held_still m h owing = elim h [ inl held ↦ held | inr over ↦ absurd (owing_live m owing over) ]
+held_still m h owing = elim h [ inl unfed ↦ unfed | inr over ↦ absurd (owing_live m owing over) ]
 
 leaves_on : (x : State) (o m n : Shown) → Leaves x o m → IsOwing m → SaysOn m.state n.state m.replied n.replied → IsBelow n.state n.replied
     → Leaves x o n
@@ -78,9 +79,9 @@ leaves_on state.Reading o m n h owing on below = absurd h
 leaves_on state.Ready o m n h owing on below = absurd h
 leaves_on state.Answering o m n h owing on below = says_rests m.state n.state o.replied m.replied n.replied on below h
 leaves_on state.Hijacked o m n h owing on below =
-    let held = held_still m h.1 owing in
-    let k = held_on n.state m.replied n.replied (subst (λ (b : State). SaysOn b n.state m.replied n.replied) held on) in
-    (λ e. k.0 e ∙ h.0 held, k.1)
+    let unfed = held_still m h.1 owing in
+    let k = held_on n.state m.replied n.replied (subst (λ (b : State). SaysOn b n.state m.replied n.replied) unfed on) in
+    (λ e. k.0 e ∙ h.0 unfed, k.1)
 leaves_on state.Over o m n h owing on below = absurd h
 
 -- where a flush leaves the state that it found, that stood before its last write too
@@ -91,7 +92,7 @@ state_before state.Answering o m n h owing on e = (subst (λ (b : State). SaysOn
 state_before state.Hijacked o m n h owing on e = held_still m h.1 owing
 state_before state.Over o m n h owing on e = absurd h
 
-pub flushing_step : (a : Said) (o m n : Shown) (s t u : Seen) (w x : ℕ) → w + writes_of a ≡ x → x ≤ 16 → Flushing o m s t w → Says a m n t u
+pub flushing_step : (a : SayStep) (o m n : Shown) (s t u : Seen) (w x : ℕ) → w + writes_of a ≡ x → x ≤ 16 → Flushing o m s t w → Says a m n t u
     → IsOwing m → m.why ≡ None → IsBelow n.state n.replied → n.ending ≡ m.ending → Flushing o n s u x
 flushing_step a o m n s t u w x is few h p owing none below ending =
     let nothing : 0 + 0 ≡ 0 = omega arith in
@@ -136,7 +137,7 @@ fallen_step o m n t u w h p same = let b = h (sym p.0 ∙ same) in omega (arith,
 
 -- a hijacker that has the connection owes some bytes
 owing_some : (n : Shown) → IsOwing n → n.state ≡ state.Hijacked → n.owed ≢ []
-owing_some n owing held = elim owing [ inl x ↦ absurd (cc) | inr x ↦ x.1 ]
+owing_some n owing unfed = elim owing [ inl x ↦ absurd (cc) | inr x ↦ x.1 ]
 
 -- what is owed is what a hijacker said, where no reply was under way
 held_first : (o : Shown) (handed : Bool) → IsOwing o → (IsTrue handed ↔ (o.state ≡ state.Answering)) → handed ≡ false → o.state ≡ state.Hijacked

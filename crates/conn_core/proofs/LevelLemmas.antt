@@ -14,23 +14,24 @@ use Rattle.talk_core.specs.Ended.{Past, past_of, ByDrain, WhyByDrain, IsUndraine
 use Rattle.talk_core.specs.Tail.{Voice, goes_on}
 use Rattle.talk_core.specs.Teller.{Stacks, Teller, tell}
 use Rattle.talk_core.proofs.CallerLemmas.{one_hijack}
-use Rattle.conn_core.specs.declared.moments.Ending.{Ending}
-use Rattle.conn_core.specs.declared.moments.Late.{Late}
-use Rattle.conn_core.specs.declared.state.Next.{Next}
-use Rattle.conn_core.specs.declared.state.State.{State}
-use Rattle.conn_core.specs.declared.state.State.TheVariants as state
-use Rattle.conn_core.specs.declared.state.Tick.{Tick}
-use Rattle.conn_core.specs.declared.state.Tick.TheVariants as tick
-use Rattle.conn_core.specs.Calls.{Feeds, Turns, Flushes, TurnEnds, IsOfFeed}
-use Rattle.conn_core.specs.Keeps.{Drains, reaching, no_bytes}
-use Rattle.conn_core.specs.Moments.{stuck_since, quiet_since}
-use Rattle.conn_core.specs.Opened.{untold}
-use Rattle.conn_core.specs.Owner.{ended_as, late_as, Ticks, drained_reading, drained_hijacked, drained_in, drained_from, drained}
-use Rattle.conn_core.specs.Plain.{EndsPlainly, IsPlainEnd}
-use Rattle.conn_core.specs.Shown.{Shown}
+use Rattle.conn_steps.specs.declared.moments.Ending.{Ending}
+use Rattle.conn_steps.specs.declared.moments.Late.{Late}
+use Rattle.conn_steps.specs.declared.state.Next.{Next}
+use Rattle.conn_steps.specs.declared.state.State.{State}
+use Rattle.conn_steps.specs.declared.state.State.TheVariants as state
+use Rattle.conn_steps.specs.declared.state.Tick.{Tick}
+use Rattle.conn_steps.specs.declared.state.Tick.TheVariants as tick
+use Rattle.conn_core.specs.Calls.{Feeds, Turns, Flushes}
+use Rattle.conn_steps.specs.Ends.{TurnEnds, IsOfFeed}
+use Rattle.conn_steps.specs.Keeps.{Drains, reaching, no_bytes}
+use Rattle.conn_steps.specs.Moments.{stuck_since, quiet_since}
+use Rattle.conn_steps.specs.Opened.{untold}
+use Rattle.conn_steps.specs.Owner.{ended_as, late_as, Ticks, drained_reading, drained_hijacked, drained_in, drained_from, drained}
+use Rattle.conn_steps.specs.Plain.{EndsPlainly, IsPlainEnd}
+use Rattle.conn_steps.specs.Shown.{Shown}
 use Rattle.conn_core.specs.Transfer.{IsBareWhy, Transfer}
 use Rattle.conn_core.specs.Within.{LevelUpTo, ToldUpTo}
-use Rattle.conn_core.proofs.ConnLemmas.{plain_ends}
+use Rattle.conn_steps.proofs.CallerLemmas.{plain_ends}
 
 -- a call's own why keeps no level
 own_level : (most : ℕ) (late : Option Late) (w : Option Why) (s u : Seen) → TurnEnds late w s u → LevelUpTo most w
@@ -101,14 +102,14 @@ transfer_told local least marked c h =
     record {
       told = none;
       closing = inl (ap (λ (x : Ending). x.closing) h.untold_is);
-      left = inl (ap (λ (x : Ending). x.left) h.untold_is);
+      dismissed = inl (ap (λ (x : Ending). x.dismissed) h.untold_is);
       why = bare_level 0 c.why h.why;
     }
 
 pub told_more : (most more : ℕ) (c : Shown) → most ≤ more → ToldUpTo most c → ToldUpTo more c
 told_more most more c le h =
     let told : c.ending.told ≤ more = omega (arith, le, h.told) in
-    record { told = told; closing = or_more most more le h.closing; left = or_more most more le h.left; why = level_more most more c.why le h.why }
+    record { told = told; closing = or_more most more le h.closing; dismissed = or_more most more le h.dismissed; why = level_more most more c.why le h.why }
 
 -- what a call of its own leaves
 told_drains : (most : ℕ) (o n : Shown) → ToldUpTo most o → Drains o n → LevelUpTo most n.why → ToldUpTo most n
@@ -120,12 +121,12 @@ told_drains most o n h d level =
         | inl same ↦ elim h.closing [ inl none ↦ inl (same ∙ none) | inr some ↦ inr some ]
         | inr once ↦ inr (let some : 1 ≤ most = omega (arith, once.1, h.told) in some)
       ];
-      left = elim h.left [ inl none ↦ inl (d.left ∙ none) | inr some ↦ inr some ];
+      dismissed = elim h.dismissed [ inl none ↦ inl (d.dismissed ∙ none) | inr some ↦ inr some ];
       why = level;
     }
 
 abbrev pub reached_told : (most now : ℕ) (c : Shown) → ToldUpTo most c → ToldUpTo most (reaching now c)
-reached_told most now c h = record { told = h.told; closing = h.closing; left = h.left; why = h.why }
+reached_told most now c h = record { told = h.told; closing = h.closing; dismissed = h.dismissed; why = h.why }
 
 pub feed_told : (most now : ℕ) (r : Next) (o n : Shown) (s u : Seen) → ToldUpTo most o → Feeds now r (reaching now o) n s u → ToldUpTo most n
 feed_told most now r o n s u h f =
@@ -134,7 +135,7 @@ feed_told most now r o n s u h f =
     record {
       told = told;
       closing = subst (λ (x : Ending). (x.closing ≡ None) ⊎ (1 ≤ most)) (sym same) h.closing;
-      left = subst (λ (x : Ending). (x.left ≡ false) ⊎ (1 ≤ most)) (sym same) h.left;
+      dismissed = subst (λ (x : Ending). (x.dismissed ≡ false) ⊎ (1 ≤ most)) (sym same) h.dismissed;
       why = feed_level most n.why f.why;
     }
 
@@ -148,12 +149,12 @@ flush_told most now r o n s u h f =
 
 -- and one of its owner
 pub ended_told : (most : ℕ) (w : Why) (c : Shown) → LevelUpTo most (Some w) → ToldUpTo most c → ToldUpTo most (ended_as w c)
-ended_told most w c level h = record { told = h.told; closing = h.closing; left = h.left; why = level }
+ended_told most w c level h = record { told = h.told; closing = h.closing; dismissed = h.dismissed; why = level }
 
 pub tick_told : (t : Tick) (most now : ℕ) (o n : Shown) → ToldUpTo most o → Ticks t now (reaching now o) n → ToldUpTo most n
 tick_told tick.Still most now o n h k = subst (λ (x : Shown). ToldUpTo most x) (sym k.3) (reached_told most now o h)
 tick_told tick.Write most now o n h k =
-    let left : ToldUpTo most (late_as k.1.0 now (reaching now o)) = record { told = h.told; closing = h.closing; left = h.left; why = h.why } in
+    let left : ToldUpTo most (late_as k.1.0 now (reaching now o)) = record { told = h.told; closing = h.closing; dismissed = h.dismissed; why = h.why } in
     subst (λ (x : Shown). ToldUpTo most x) (sym k.1.2) left
 tick_told tick.Over most now o n h k =
     elim k [
@@ -167,11 +168,11 @@ pub placed_told : (most : ℕ) (lives : List Life) (c : Shown) → ToldUpTo most
     → ToldUpTo most (record c { lives = lives; ending = record c.ending { told = 0 } })
 placed_told most lives c h =
     let none : 0 ≤ most = omega arith in
-    record { told = none; closing = h.closing; left = h.left; why = h.why }
+    record { told = none; closing = h.closing; dismissed = h.dismissed; why = h.why }
 
 hijacked_told : (none : Bool) (most : ℕ) (c : Shown) → ToldUpTo most c → ToldUpTo most (drained_hijacked none c)
 hijacked_told true most c h = ended_told most why.Hijacked c tt h
-hijacked_told false most c h = record { told = h.told; closing = h.closing; left = h.left; why = h.why }
+hijacked_told false most c h = record { told = h.told; closing = h.closing; dismissed = h.dismissed; why = h.why }
 
 in_told : (s : State) (level most : ℕ) (c : Shown) → level ≤ most → 1 ≤ most → ToldUpTo most c
     → ((begun : Option ℕ) → ToldUpTo most (drained_reading begun level c)) → ToldUpTo most (drained_in s level c)
@@ -179,8 +180,8 @@ in_told state.Reading level most c le some h reading = reading c.moments.begun
 in_told state.Ready level most c le some h reading = h
 in_told state.Answering level most c le some h reading = h
 in_told state.Hijacked level most c le some h reading =
-    hijacked_told (no_bytes c.owed) most (record c { ending = record c.ending { left = true } })
-    (record { told = h.told; closing = h.closing; left = inr some; why = h.why })
+    hijacked_told (no_bytes c.owed) most (record c { ending = record c.ending { dismissed = true } })
+    (record { told = h.told; closing = h.closing; dismissed = inr some; why = h.why })
 in_told state.Over level most c le some h reading = h
 
 room_told : (room : Bool) (level most : ℕ) (c : Shown) → level ≤ most → ToldUpTo most c
@@ -200,10 +201,10 @@ pub drained_told : (level most : ℕ) (c : Shown) → 1 ≤ level → level ≤ 
 drained_told level most c one le h =
     let some : 1 ≤ most = omega (arith, one, le) in
     from_told c.taken level most (record c { ending = record c.ending { told = level } }) le some
-    (record { told = le; closing = h.closing; left = h.left; why = h.why })
+    (record { told = le; closing = h.closing; dismissed = h.dismissed; why = h.why })
 
 -- no drain is told by a why that keeps no level
-unlevelled : {H : Type 0} (w : Why) (V : Voice H) (T : Teller H) (m : Ending) (p : Past) → m.left ≡ false → LevelUpTo 0 (Some w)
+unlevelled : {H : Type 0} (w : Why) (V : Voice H) (T : Teller H) (m : Ending) (p : Past) → m.dismissed ≡ false → LevelUpTo 0 (Some w)
     → EndsPlainly m w V T p → ¬ (WhyByDrain w V T p)
 unlevelled why.Closed V T m p left level e h = h
 unlevelled why.PeerEnd V T m p left level e h = h
@@ -235,7 +236,7 @@ no_drain {L} {H} seen V S local peer c e told is closing h =
     let T : Teller H = tell S e.lives.items local peer e.closing in
     let p : Past = past_of (seen e.link) e h.given h.sent h.over in
     let none : e.closing ≡ None = closing ∙ elim told.closing [ inl k ↦ k | inr some ↦ absurd (omega (arith, some)) ] in
-    let stays : c.ending.left ≡ false = elim told.left [ inl k ↦ k | inr some ↦ absurd (omega (arith, some)) ] in
+    let stays : c.ending.dismissed ≡ false = elim told.dismissed [ inl k ↦ k | inr some ↦ absurd (omega (arith, some)) ] in
     let level : LevelUpTo 0 (Some e.why) = subst (λ (x : Option Why). LevelUpTo 0 x) is told.why in
     record {
       given = h.given;

@@ -9,12 +9,12 @@ use Rattle.rack_outside.specs.declared.link.LinkWrite.TheVariants as write
 use Rattle.talk_core.specs.Counts.{counted_by}
 use Rattle.talk_core.specs.declared.ended.Why.{Why}
 use Rattle.talk_core.specs.declared.ended.Why.TheVariants as why
-use Rattle.conn_core.specs.declared.state.Next.{Next}
-use Rattle.conn_core.specs.declared.state.State.{State}
-use Rattle.conn_core.specs.declared.state.State.TheVariants as state
+use Rattle.conn_steps.specs.declared.state.Next.{Next}
+use Rattle.conn_steps.specs.declared.state.State.{State}
+use Rattle.conn_steps.specs.declared.state.State.TheVariants as state
 use Rattle.conn_core.specs.Calls.{Feeds, Turns, Flushes, IsListening}
-use Rattle.conn_core.specs.Moves.{Move, Run, Refusal, Want, Read, Write, Point, IsOpen, MayWrite, Makes, MakesMove, Goes, OwesAs, OwesRightly, IsOwing, turn_at, StopsIn, TurnStops, flush_at, FlushStops, IsSpentAt, BehindRead, BehindWrite, read_waits, write_waits, ring_room}
-use Rattle.conn_core.specs.Shown.{Shown}
+use Rattle.conn_steps.specs.Moves.{Move, Run, Refusal, Want, Read, Write, Point, IsOpen, MayWrite, Makes, MakesMove, Goes, OwesAs, OwesRightly, IsOwing, turn_at, StopsIn, TurnStops, flush_at, FlushStops, IsSpentAt, BehindRead, BehindWrite, read_waits, write_waits, ring_room}
+use Rattle.conn_steps.specs.Shown.{Shown}
 use Rattle.conn_core.specs.Stopping.{AreUnread, RunsLast, TurnLeaves, ended, listens, stuck, ran_out, read_out, wrote_out, waits, FlushLeaves, WritesAny}
 
 -- a move is made only where nothing had to wait

@@ -9,19 +9,20 @@ use Rattle.talk_core.specs.declared.ended.Why.{Why}
 use Rattle.talk_core.specs.declared.ended.Why.TheVariants as why
 use Rattle.talk_core.specs.declared.ended.IdleBy.TheVariants.{Drain}
 use Rattle.talk_core.specs.Lives.{lives_limit}
-use Rattle.conn_core.specs.declared.moments.Ending.{Ending}
-use Rattle.conn_core.specs.declared.moments.Late.{Late}
-use Rattle.conn_core.specs.declared.moments.Moments.{Moments}
-use Rattle.conn_core.specs.declared.state.Next.{Next}
-use Rattle.conn_core.specs.declared.state.Tick.{Tick}
-use Rattle.conn_core.specs.declared.state.Tick.TheVariants as tick
-use Rattle.conn_core.specs.declared.state.State.{State}
-use Rattle.conn_core.specs.declared.state.State.TheVariants as state
-use Rattle.conn_core.specs.Calls.{Feeds, Turns, Flushes, TurnEnds, IsOfFeed}
-use Rattle.conn_core.specs.Keeps.{Drains, reaching, no_bytes}
-use Rattle.conn_core.specs.Opened.{opened, untold, first_moments}
-use Rattle.conn_core.specs.Owner.{MayPlace, ended_as, Ticks, drained_reading, drained_hijacked, drained_in, drained_from, drained}
-use Rattle.conn_core.specs.Shown.{Shown}
+use Rattle.conn_steps.specs.declared.moments.Ending.{Ending}
+use Rattle.conn_steps.specs.declared.moments.Late.{Late}
+use Rattle.conn_steps.specs.declared.moments.Moments.{Moments}
+use Rattle.conn_steps.specs.declared.state.Next.{Next}
+use Rattle.conn_steps.specs.declared.state.Tick.{Tick}
+use Rattle.conn_steps.specs.declared.state.Tick.TheVariants as tick
+use Rattle.conn_steps.specs.declared.state.State.{State}
+use Rattle.conn_steps.specs.declared.state.State.TheVariants as state
+use Rattle.conn_core.specs.Calls.{Feeds, Turns, Flushes}
+use Rattle.conn_steps.specs.Ends.{TurnEnds, IsOfFeed}
+use Rattle.conn_steps.specs.Keeps.{Drains, reaching, no_bytes}
+use Rattle.conn_steps.specs.Opened.{opened, untold, first_moments}
+use Rattle.conn_steps.specs.Owner.{MayPlace, ended_as, Ticks, drained_reading, drained_hijacked, drained_in, drained_from, drained}
+use Rattle.conn_steps.specs.Shown.{Shown}
 use Rattle.conn_core.specs.Transfer.{IsBareWhy, Transfer, as_untold}
 use Rattle.conn_core.specs.Within.{MomentsBy, KeptFrom, LateWithin, WhyWithin, KeptWithin}
 use Rattle.conn_core.proofs.WithinLemmas.{feed_moments, turn_moments, flush_moments, kept_from, reached_from}
@@ -56,24 +57,24 @@ bare_feed (Some why.NoMemory) h = tt
 bare_feed (Some why.Hijacked) h = tt
 
 nothing_told : (t : ℕ) (k : Option ℕ) (l : Option Late) (b : Bool) → t ≡ 0 → k ≡ None → l ≡ None → b ≡ false
-    → record { told = t; closing = k; late = l; left = b } ≡ untold
+    → record { told = t; closing = k; late = l; dismissed = b } ≡ untold
 nothing_told t k l b e f g h =
-    ap (λ (x : ℕ). record { told = x; closing = k; late = l; left = b }) e ∙ ap (λ (x : Option ℕ). record { told = 0; closing = x; late = l; left = b }) f
-    ∙ ap (λ (x : Option Late). record { told = 0; closing = None; late = x; left = b }) g
-    ∙ ap (λ (x : Bool). record { told = 0; closing = None; late = None; left = x }) h
+    ap (λ (x : ℕ). record { told = x; closing = k; late = l; dismissed = b }) e ∙ ap (λ (x : Option ℕ). record { told = 0; closing = x; late = l; dismissed = b }) f
+    ∙ ap (λ (x : Option Late). record { told = 0; closing = None; late = x; dismissed = b }) g
+    ∙ ap (λ (x : Bool). record { told = 0; closing = None; late = None; dismissed = x }) h
 
 -- what several moves leave of an end of which nothing was told
 untold_drains : (o n : Shown) → o.ending ≡ untold → Drains o n → n.ending ≡ untold
 untold_drains o n none h =
     let told : n.ending.told ≡ 0 = h.told ∙ ap (λ (x : Ending). x.told) none in
     let late : n.ending.late ≡ None = h.late ∙ ap (λ (x : Ending). x.late) none in
-    let left : n.ending.left ≡ false = h.left ∙ ap (λ (x : Ending). x.left) none in
+    let left : n.ending.dismissed ≡ false = h.dismissed ∙ ap (λ (x : Ending). x.dismissed) none in
     let closing : n.ending.closing ≡ None =
     elim h.closing [
       | inl same ↦ same ∙ ap (λ (x : Ending). x.closing) none
       | inr once ↦ absurd (let zero_told : o.ending.told ≡ 0 = ap (λ (x : Ending). x.told) none in omega (arith, zero_told, once.1))
     ] in
-    nothing_told n.ending.told n.ending.closing n.ending.late n.ending.left told closing late left
+    nothing_told n.ending.told n.ending.closing n.ending.late n.ending.dismissed told closing late left
 
 no_mark : (c : Shown) → false ≡ true → MayPlace c
 no_mark c e = cc
@@ -156,15 +157,15 @@ reading_keeps None level c e = room_keeps (nat_lt (length c.lives) lives_limit) 
 reading_keeps (Some since) level c e = refl
 
 hijacked_keeps : (none : Bool) (c : Shown) → c.state ≡ state.Hijacked → (drained_hijacked none c).state ≡ state.Reading → ⊥
-hijacked_keeps true c held e = cc (e)
-hijacked_keeps false c held e = cc (held, e)
+hijacked_keeps true c unfed e = cc (e)
+hijacked_keeps false c unfed e = cc (unfed, e)
 
 in_keeps : (s : State) (level : ℕ) (c : Shown) → c.state ≡ s → (drained_in s level c).state ≡ state.Reading → drained_in s level c ≡ c
 in_keeps state.Reading level c is e = reading_keeps c.moments.begun level c e
 in_keeps state.Ready level c is e = refl
 in_keeps state.Answering level c is e = refl
 in_keeps state.Hijacked level c is e =
-    absurd (hijacked_keeps (no_bytes c.owed) (record c { ending = record c.ending { left = true } }) is e)
+    absurd (hijacked_keeps (no_bytes c.owed) (record c { ending = record c.ending { dismissed = true } }) is e)
 in_keeps state.Over level c is e = refl
 
 from_keeps : (taken level : ℕ) (c : Shown) → (taken ≡ 0) ⊎ ((drained_from taken level c).state ≡ state.Reading) → drained_from taken level c ≡ c
@@ -187,7 +188,7 @@ in_taken : (s : State) (level : ℕ) (c : Shown) → (drained_in s level c).take
 in_taken state.Reading level c = reading_taken c.moments.begun level c
 in_taken state.Ready level c = refl
 in_taken state.Answering level c = refl
-in_taken state.Hijacked level c = hijacked_taken (no_bytes c.owed) (record c { ending = record c.ending { left = true } })
+in_taken state.Hijacked level c = hijacked_taken (no_bytes c.owed) (record c { ending = record c.ending { dismissed = true } })
 in_taken state.Over level c = refl
 
 from_taken : (taken level : ℕ) (c : Shown) → (drained_from taken level c).taken ≡ c.taken

@@ -17,30 +17,31 @@ use Rattle.reply_framing.specs.Reply.{reply}
 use Rattle.talk_core.specs.Counts.{counted_by}
 use Rattle.talk_core.specs.declared.ended.Why.{Why}
 use Rattle.talk_core.specs.Teller.{Stack, Teller, reply_of, ask_of, is_last}
-use Rattle.conn_core.specs.declared.left.Left.{Left}
-use Rattle.conn_core.specs.declared.left.Said.{Said}
-use Rattle.conn_core.specs.declared.left.Step.{Step}
-use Rattle.conn_core.specs.declared.left.Step.TheVariants as step
-use Rattle.conn_core.specs.declared.moments.Ending.{Ending}
-use Rattle.conn_core.specs.declared.moments.Late.{Late}
-use Rattle.conn_core.specs.declared.place.At.{At}
-use Rattle.conn_core.specs.declared.place.At.TheVariants as at
-use Rattle.conn_core.specs.declared.state.Next.{Next}
-use Rattle.conn_core.specs.declared.state.Next.TheVariants as next
-use Rattle.conn_core.specs.declared.state.State.{State}
-use Rattle.conn_core.specs.declared.state.State.TheVariants as state
+use Rattle.conn_steps.specs.declared.budget.Budget.{Budget}
+use Rattle.conn_steps.specs.declared.budget.SayStep.{SayStep}
+use Rattle.conn_steps.specs.declared.budget.Step.{Step}
+use Rattle.conn_steps.specs.declared.budget.Step.TheVariants as step
+use Rattle.conn_steps.specs.declared.moments.Ending.{Ending}
+use Rattle.conn_steps.specs.declared.moments.Late.{Late}
+use Rattle.conn_steps.specs.declared.at.At.{At}
+use Rattle.conn_steps.specs.declared.at.At.TheVariants as at
+use Rattle.conn_steps.specs.declared.state.Next.{Next}
+use Rattle.conn_steps.specs.declared.state.Next.TheVariants as next
+use Rattle.conn_steps.specs.declared.state.State.{State}
+use Rattle.conn_steps.specs.declared.state.State.TheVariants as state
 use Rattle.conn_core.specs.Answers.{TurnedSo}
-use Rattle.conn_core.specs.Calls.{TurnEnds, RestsBehind, IsSpent, IsListening, TurnTells, Turns}
-use Rattle.conn_core.specs.Keeps.{Drains, DrainsOnce}
-use Rattle.conn_core.specs.Inner.{IsFed, ReadLeaves, ReadsBy, TakesUp, TellsBy, TellsFrom, writes_of, HijackedOn, SaysOn, Says, Steps, IsSpentLeft, StepLeaves}
-use Rattle.conn_core.specs.Moves.{SameShown, StartsAs}
-use Rattle.conn_core.specs.Place.{IsHearing, state_at}
-use Rattle.conn_core.specs.Rests.{RestsAt}
-use Rattle.conn_core.specs.Shown.{Shown, Moved, replied_at}
-use Rattle.conn_core.proofs.ShownLemmas.{counted_sum}
-use Rattle.conn_core.proofs.MovingLemmas.{full, TurnMade}
-use Rattle.conn_core.proofs.MovedLemmas.{counted_lists, moved_same, moved_by, moved_then, ends_then, drains_then, drains_same, drains_run}
-use Rattle.conn_core.proofs.PlaceLemmas.{unclosed, untimed}
+use Rattle.conn_steps.specs.Ends.{TurnEnds, RestsBehind}
+use Rattle.conn_core.specs.Calls.{IsSpent, IsListening, TurnTells, Turns}
+use Rattle.conn_steps.specs.Keeps.{Drains, DrainsOnce}
+use Rattle.conn_steps.specs.Inner.{IsFed, ReadLeaves, ReadsBy, TakesUp, TellsBy, TellsFrom, writes_of, HijackedOn, SaysOn, Says, Steps, IsSpentBudget, StepLeaves}
+use Rattle.conn_steps.specs.Moves.{SameShown, StartsAs}
+use Rattle.conn_steps.specs.At.{IsHearing, state_at}
+use Rattle.conn_steps.specs.Rests.{RestsAt}
+use Rattle.conn_steps.specs.Shown.{Shown, Moved, replied_at}
+use Rattle.conn_steps.proofs.CallerLemmas.{counted_sum}
+use Rattle.conn_core.proofs.MovesOfCalls.{full, TurnMade}
+use Rattle.conn_core.proofs.PartsOfCalls.{counted_lists, moved_same, moved_by, moved_then, ends_then, drains_then, drains_same, drains_run}
+use Rattle.conn_steps.proofs.CallerLemmas.{unclosed, untimed}
 
 -- fewer than 10,000 replies were sent whole where it rests
 abbrev pub IsBelow : State → ℕ → Type 0
@@ -50,19 +51,19 @@ IsBelow state.Answering n = Unit
 IsBelow state.Hijacked n = Unit
 IsBelow state.Over n = Unit
 
-pub is_below : {B H : Type 0} (a : At B H) (intake : Intake) (held ring : List ℕ) (calls : ℕ) (m : Ending) → RestsAt a intake held ring calls m
+pub is_below : {B H : Type 0} (a : At B H) (intake : Intake) (unfed ring : List ℕ) (calls : ℕ) (m : Ending) → RestsAt a intake unfed ring calls m
     → IsBelow (state_at a) (replied_at a calls)
-is_below {B} {H} at.Reading intake held ring calls m h = h.1.1.0
-is_below {B} {H} at.Asked intake held ring calls m h = h.1.0
-is_below {B} {H} (at.Refused f) intake held ring calls m h = h.1.0
-is_below {B} {H} (at.Answering f) intake held ring calls m h = tt
-is_below {B} {H} (at.Writing keeps) intake held ring calls m h = tt
-is_below {B} {H} (at.Handing x) intake held ring calls m h = tt
-is_below {B} {H} at.Refusing intake held ring calls m h = tt
-is_below {B} {H} (at.Taken x) intake held ring calls m h = tt
-is_below {B} {H} (at.Speaking x) intake held ring calls m h = tt
-is_below {B} {H} at.Parting intake held ring calls m h = tt
-is_below {B} {H} (at.Over w) intake held ring calls m h = tt
+is_below {B} {H} at.Reading intake unfed ring calls m h = h.1.1.0
+is_below {B} {H} at.Asked intake unfed ring calls m h = h.1.0
+is_below {B} {H} (at.Refused f) intake unfed ring calls m h = h.1.0
+is_below {B} {H} (at.Answering f) intake unfed ring calls m h = tt
+is_below {B} {H} (at.Writing keeps) intake unfed ring calls m h = tt
+is_below {B} {H} (at.Handing x) intake unfed ring calls m h = tt
+is_below {B} {H} at.Refusing intake unfed ring calls m h = tt
+is_below {B} {H} (at.Listening x) intake unfed ring calls m h = tt
+is_below {B} {H} (at.Speaking x) intake unfed ring calls m h = tt
+is_below {B} {H} at.Parting intake unfed ring calls m h = tt
+is_below {B} {H} (at.Over w) intake unfed ring calls m h = tt
 
 -- behind a read it rests as before it
 fed_rests : (b : State) (n r q : ℕ) → IsFed b → q ≡ r → RestsBehind state.Reading n r → RestsBehind b n q
@@ -148,19 +149,19 @@ takes_drains now runs o n h none =
     ]
 
 -- nothing ends the connection where a request or a refusal stands
-pub ready_unended : {B H : Type 0} (a : At B H) (intake : Intake) (held ring : List ℕ) (calls : ℕ) (m : Ending) → RestsAt a intake held ring calls m
+pub ready_unended : {B H : Type 0} (a : At B H) (intake : Intake) (unfed ring : List ℕ) (calls : ℕ) (m : Ending) → RestsAt a intake unfed ring calls m
     → state_at a ≡ state.Ready → (m.closing ≡ None) × (m.late ≡ None)
-ready_unended {B} {H} at.Reading intake held ring calls m h e = cc
-ready_unended {B} {H} at.Asked intake held ring calls m h e = (unclosed m h.1.1.1, untimed m h.1.1.1)
-ready_unended {B} {H} (at.Refused f) intake held ring calls m h e = (unclosed m h.1.1, untimed m h.1.1)
-ready_unended {B} {H} (at.Answering f) intake held ring calls m h e = cc
-ready_unended {B} {H} (at.Writing keeps) intake held ring calls m h e = cc
-ready_unended {B} {H} (at.Handing x) intake held ring calls m h e = cc
-ready_unended {B} {H} at.Refusing intake held ring calls m h e = cc
-ready_unended {B} {H} (at.Taken x) intake held ring calls m h e = cc
-ready_unended {B} {H} (at.Speaking x) intake held ring calls m h e = cc
-ready_unended {B} {H} at.Parting intake held ring calls m h e = cc
-ready_unended {B} {H} (at.Over w) intake held ring calls m h e = cc
+ready_unended {B} {H} at.Reading intake unfed ring calls m h e = cc
+ready_unended {B} {H} at.Asked intake unfed ring calls m h e = (unclosed m h.1.1.1, untimed m h.1.1.1)
+ready_unended {B} {H} (at.Refused f) intake unfed ring calls m h e = (unclosed m h.1.1, untimed m h.1.1)
+ready_unended {B} {H} (at.Answering f) intake unfed ring calls m h e = cc
+ready_unended {B} {H} (at.Writing keeps) intake unfed ring calls m h e = cc
+ready_unended {B} {H} (at.Handing x) intake unfed ring calls m h e = cc
+ready_unended {B} {H} at.Refusing intake unfed ring calls m h e = cc
+ready_unended {B} {H} (at.Listening x) intake unfed ring calls m h e = cc
+ready_unended {B} {H} (at.Speaking x) intake unfed ring calls m h e = cc
+ready_unended {B} {H} at.Parting intake unfed ring calls m h e = cc
+ready_unended {B} {H} (at.Over w) intake unfed ring calls m h e = cc
 
 -- where a hijacker has it behind a write, more replies were sent whole, or it had it before
 held_rests : (a : State) (n r q : ℕ) → HijackedOn a r q → RestsBehind a n r → n < q
@@ -187,16 +188,16 @@ says_rests a state.Hijacked n r q on below h = held_rests a n r q on h
 says_rests a state.Over n r q on below h = tt
 
 -- some are left, where the last of none was made
-pub unspent : (b : Bool) (l : Left) → (IsTrue b ↔ IsSpentLeft l) → b ≡ false → (0 < l.runs) × (0 < l.reads) × (0 < l.writes)
+pub unspent : (b : Bool) (l : Budget) → (IsTrue b ↔ IsSpentBudget l) → b ≡ false → (0 < l.runs) × (0 < l.reads) × (0 < l.writes)
 unspent b l is none =
-    let not : IsSpentLeft l → ⊥ = λ h. let t : b ≡ true = is.1 h in cc in
+    let not : IsSpentBudget l → ⊥ = λ h. let t : b ≡ true = is.1 h in cc in
     let runs : l.runs ≢ 0 = λ e. not (inl e) in
     let reads : l.reads ≢ 0 = λ e. not (inr (inl e)) in
     let writes : l.writes ≢ 0 = λ e. not (inr (inr e)) in
     (omega (arith, runs), omega (arith, reads), omega (arith, writes))
 
 -- a step that wasn't made
-pub stays : (o : Shown) (s : Seen) (l : Left) → Steps o o s s l l
+pub stays : (o : Shown) (s : Seen) (l : Budget) → Steps o o s s l l
 stays o s l =
     let reads : l.reads - l.reads ≡ 0 = omega arith in
     let writes : l.writes - l.writes ≡ 0 = omega arith in
@@ -215,7 +216,7 @@ stays o s l =
     }
 
 -- one that read
-pub read_steps : (a : LinkRead) (o n : Shown) (s u : Seen) (l : Left) (came : ℕ) (h : ReadsBy a o n s u)
+pub read_steps : (a : LinkRead) (o n : Shown) (s u : Seen) (l : Budget) (came : ℕ) (h : ReadsBy a o n s u)
     → came ≡ counted_by (length h.moved.came) l.came → 0 < l.reads → o.state ≡ state.Reading → o.why ≡ None
     → n.ending ≡ o.ending → Steps o n s u l (record { runs = l.runs; reads = l.reads - 1; writes = l.writes; came = came })
 read_steps a o n s u l came h is some reading none ending =
@@ -236,11 +237,11 @@ read_steps a o n s u l came h is some reading none ending =
     }
 
 -- one that took up a request or a refusal
-pub start_steps : (now : ℕ) (o n : Shown) (s : Seen) (l m : Left) → TakesUp now (l.runs - m.runs) o n → m ≡ record l { runs = m.runs } → m.runs ≤ l.runs
+pub start_steps : (now : ℕ) (o n : Shown) (s : Seen) (l m : Budget) → TakesUp now (l.runs - m.runs) o n → m ≡ record l { runs = m.runs } → m.runs ≤ l.runs
     → o.state ≡ state.Ready → o.why ≡ None → o.ending.closing ≡ None → Steps o n s s l m
 start_steps now o n s l m h is few ready none unclosing =
-    let same_reads : m.reads ≡ l.reads = ap (λ (x : Left). x.reads) is in
-    let same_writes : m.writes ≡ l.writes = ap (λ (x : Left). x.writes) is in
+    let same_reads : m.reads ≡ l.reads = ap (λ (x : Budget). x.reads) is in
+    let same_writes : m.writes ≡ l.writes = ap (λ (x : Budget). x.writes) is in
     let reads : l.reads - m.reads ≡ 0 = omega (arith, same_reads) in
     let writes : l.writes - m.writes ≡ 0 = omega (arith, same_writes) in
     let fewer : m.reads ≤ l.reads = omega (arith, same_reads) in
@@ -248,7 +249,7 @@ start_steps now o n s l m h is few ready none unclosing =
     let calls : n.calls + m.runs ≡ o.calls + l.runs = omega (arith, takes_calls now (l.runs - m.runs) o n h, few) in
     record {
       moved = moved_same o n s (l.reads - m.reads) (l.writes - m.writes) (takes_same now (l.runs - m.runs) o n h) reads writes;
-      came = ap (λ (x : Left). x.came) is;
+      came = ap (λ (x : Budget). x.came) is;
       calls = calls;
       few = (few, fewer, fewest);
       replied = λ k x.
@@ -260,7 +261,7 @@ start_steps now o n s l m h is few ready none unclosing =
     }
 
 -- one that said
-pub say_steps : (a : Said) (o n : Shown) (s u : Seen) (l : Left) (writes : ℕ) → Says a o n s u → writes + writes_of a ≡ l.writes
+pub say_steps : (a : SayStep) (o n : Shown) (s u : Seen) (l : Budget) (writes : ℕ) → Says a o n s u → writes + writes_of a ≡ l.writes
     → o.why ≡ None → IsBelow n.state n.replied → n.ending ≡ o.ending
     → Steps o n s u l (record { runs = l.runs; reads = l.reads; writes = writes; came = l.came })
 say_steps a o n s u l writes h is none below ending =
@@ -280,7 +281,7 @@ say_steps a o n s u l writes h is none below ending =
     }
 
 -- what a turn did so far, of which this is left
-pub record Turning (old new : Shown) (s s' : Seen) (l : Left) : Type 0 where
+pub record Turning (old new : Shown) (s s' : Seen) (l : Budget) : Type 0 where
   pub moved : Moved old new s s' (160 - l.reads) (160 - l.writes)
   pub came : l.came ≡ counted_by (length moved.came) 0
   pub calls : new.calls + l.runs ≡ old.calls + 10
@@ -290,12 +291,12 @@ pub record Turning (old new : Shown) (s s' : Seen) (l : Left) : Type 0 where
   pub ends : TurnEnds None new.why s s'
 
 -- its first part
-pub turning_start : (now : ℕ) (o n : Shown) (s : Seen) (f l : Left) → f ≡ full → TakesUp now (f.runs - l.runs) o n → l ≡ record f { runs = l.runs }
+pub turning_start : (now : ℕ) (o n : Shown) (s : Seen) (f l : Budget) → f ≡ full → TakesUp now (f.runs - l.runs) o n → l ≡ record f { runs = l.runs }
     → l.runs ≤ f.runs → o.ending.closing ≡ None → Turning o n s s l
 turning_start now o n s f l all h is few unclosing =
-    let ten : f.runs ≡ 10 = ap (λ (x : Left). x.runs) all in
-    let same_reads : l.reads ≡ 160 = ap (λ (x : Left). x.reads) is ∙ ap (λ (x : Left). x.reads) all in
-    let same_writes : l.writes ≡ 160 = ap (λ (x : Left). x.writes) is ∙ ap (λ (x : Left). x.writes) all in
+    let ten : f.runs ≡ 10 = ap (λ (x : Budget). x.runs) all in
+    let same_reads : l.reads ≡ 160 = ap (λ (x : Budget). x.reads) is ∙ ap (λ (x : Budget). x.reads) all in
+    let same_writes : l.writes ≡ 160 = ap (λ (x : Budget). x.writes) is ∙ ap (λ (x : Budget). x.writes) all in
     let reads : 160 - l.reads ≡ 0 = omega (arith, same_reads) in
     let writes : 160 - l.writes ≡ 0 = omega (arith, same_writes) in
     let fewest : l.runs ≤ 10 = omega (arith, ten, few) in
@@ -305,7 +306,7 @@ turning_start now o n s f l all h is few unclosing =
     let within : o.replied ≤ o.replied = omega arith in
     record {
       moved = moved_same o n s (160 - l.reads) (160 - l.writes) (takes_same now (f.runs - l.runs) o n h) reads writes;
-      came = ap (λ (x : Left). x.came) is ∙ ap (λ (x : Left). x.came) all;
+      came = ap (λ (x : Budget). x.came) is ∙ ap (λ (x : Budget). x.came) all;
       calls = calls;
       few = (fewest, fewer_reads, fewer_writes);
       rests = takes_rests now (f.runs - l.runs) o.replied o n h within;
@@ -314,7 +315,7 @@ turning_start now o n s f l all h is few unclosing =
     }
 
 -- and a step
-pub turning_step : (o m n : Shown) (s t u : Seen) (l k : Left) → o.ending.late ≡ None → Turning o m s t l → Steps m n t u l k → Turning o n s u k
+pub turning_step : (o m n : Shown) (s t u : Seen) (l k : Budget) → o.ending.late ≡ None → Turning o m s t l → Steps m n t u l k → Turning o n s u k
 turning_step o m n s t u l k late h p =
     let reads : (160 - l.reads) + (l.reads - k.reads) ≡ 160 - k.reads = omega (arith, h.few.1, p.few.1) in
     let writes : (160 - l.writes) + (l.writes - k.writes) ≡ 160 - k.writes = omega (arith, h.few.2, p.few.2) in
@@ -336,7 +337,7 @@ turning_step o m n s t u l k late h p =
     }
 
 -- how many runs, reads and writes were made is told by how many are left
-spent_left : (l : Left) → (l.runs ≤ 10) × (l.reads ≤ 160) × (l.writes ≤ 160) → IsSpent (10 - l.runs) (160 - l.reads) (160 - l.writes) → IsSpentLeft l
+spent_left : (l : Budget) → (l.runs ≤ 10) × (l.reads ≤ 160) × (l.writes ≤ 160) → IsSpent (10 - l.runs) (160 - l.reads) (160 - l.writes) → IsSpentBudget l
 spent_left l few h =
     elim h [
       | inl e ↦ let z : l.runs ≡ 0 = omega (arith, e, few.0) in inl z
@@ -346,7 +347,7 @@ spent_left l few h =
       ]
     ]
 
-left_spent : (l : Left) → IsSpentLeft l → IsSpent (10 - l.runs) (160 - l.reads) (160 - l.writes)
+left_spent : (l : Budget) → IsSpentBudget l → IsSpent (10 - l.runs) (160 - l.reads) (160 - l.writes)
 left_spent l h =
     elim h [
       | inl e ↦ let z : 10 - l.runs ≡ 10 = omega (arith, e) in inl z
@@ -365,9 +366,9 @@ some_came : (came : List ℕ) (n : ℕ) → n ≡ counted_by (length came) 0 →
 some_came came n is some = omega (arith, is, some, counted_sum (length came) 0 some)
 
 -- the link had to wait in the last step, or a hijacker has the connection and nothing is owed, or no step may be made
-waited : (n : Shown) (s u : Seen) (l : Left)
-    → Rose s.waits u.waits ⊎ ((n.state ≡ state.Over) ⊎ (IsListening n ⊎ IsSpentLeft l))
-    → n.state ≢ state.Over → ¬ (IsSpentLeft l) → Rose s.waits u.waits ⊎ IsListening n
+waited : (n : Shown) (s u : Seen) (l : Budget)
+    → Rose s.waits u.waits ⊎ ((n.state ≡ state.Over) ⊎ (IsListening n ⊎ IsSpentBudget l))
+    → n.state ≢ state.Over → ¬ (IsSpentBudget l) → Rose s.waits u.waits ⊎ IsListening n
 waited n s u l h live more =
     elim h [
       | inl rose ↦ inl rose
@@ -377,14 +378,14 @@ waited n s u l h live more =
       ]
     ]
 
-module _ {B H : Type 0} (a : At B H) (o n : Shown) (s u : Seen) (l : Left) (more : Bool) (h : Turning o n s u l) (is : n.state ≡ state_at a)
+module _ {B H : Type 0} (a : At B H) (o n : Shown) (s u : Seen) (l : Budget) (more : Bool) (h : Turning o n s u l) (is : n.state ≡ state_at a)
     (got : IsTrue more ↔ (o.replied < n.replied))
-    (stopped : Rose s.waits u.waits ⊎ ((n.state ≡ state.Over) ⊎ (IsListening n ⊎ IsSpentLeft l))) where
+    (stopped : Rose s.waits u.waits ⊎ ((n.state ≡ state.Over) ⊎ (IsListening n ⊎ IsSpentBudget l))) where
   -- behind a hijacker's taking over, a reply was sent whole
   handed_got : IsListening n → IsTrue more
   handed_got handed = got.1 (subst (λ (b : State). RestsBehind b o.replied n.replied) handed.0 h.rests)
 
-  turn_tells : (result : Next) → TurnedSo result a l more → TurnTells result (10 - l.runs) (160 - l.reads) (160 - l.writes) h.moved.came o n s u
+  pub turn_tells : (result : Next) → TurnedSo result a l more → TurnTells result (10 - l.runs) (160 - l.reads) (160 - l.writes) h.moved.came o n s u
   turn_tells next.Waiting f =
       let live : n.state ≢ state.Over = λ e. f.0 (sym is ∙ e) in (
         live,
@@ -410,7 +411,7 @@ module _ {B H : Type 0} (a : At B H) (o n : Shown) (s u : Seen) (l : Left) (more
   turn_tells next.Over f = is ∙ f
 
   -- and its end
-  pub turning_end : (now : ℕ) (result : Next) → TurnedSo result a l more → TurnMade now o n s u (10 - l.runs) (160 - l.reads) (160 - l.writes)
+  abbrev pub turning_end : (now : ℕ) (result : Next) → TurnedSo result a l more → TurnMade now o n s u (10 - l.runs) (160 - l.reads) (160 - l.writes)
       → Turns now result o n s u
   turning_end now result f made =
       let runs : 10 - l.runs ≤ 10 = omega arith in
@@ -435,9 +436,9 @@ module _ {B H : Type 0} (a : At B H) (o n : Shown) (s u : Seen) (l : Left) (more
       }
 
 -- why a turn stops: the link had to wait in the last step, or none may be made
-pub step_stops : {B H : Type 0} (r : Step) (l k : Left) (a b : At B H) (n : Shown) (s t u : Seen) → (r ≡ step.Waits) ⊎ (r ≡ step.Stops)
+pub step_stops : {B H : Type 0} (r : Step) (l k : Budget) (a b : At B H) (n : Shown) (s t u : Seen) → (r ≡ step.Waits) ⊎ (r ≡ step.Stops)
     → StepLeaves r l k a b t u → s.waits ≤ t.waits → n.state ≡ state_at b → (IsHearing b → IsListening n)
-    → Rose s.waits u.waits ⊎ ((n.state ≡ state.Over) ⊎ (IsListening n ⊎ IsSpentLeft k))
+    → Rose s.waits u.waits ⊎ ((n.state ≡ state.Over) ⊎ (IsListening n ⊎ IsSpentBudget k))
 step_stops {B} {H} step.GoesOn l k a b n s t u e h early is hands = elim e [ inl x ↦ cc | inr x ↦ cc ]
 step_stops {B} {H} step.Waits l k a b n s t u e h early is hands =
     let last : u.waits ≤ u.waits = omega arith in inl (rose_within s.waits t.waits u.waits u.waits early h last)

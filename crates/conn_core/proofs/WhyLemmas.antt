@@ -1,12 +1,12 @@
 -- A place that is not Over names no why.
 use Rattle.std.proofs.Common.{◌≡◌, ◌≢◌, refl, sym, ◌∙◌, None, inl, inr}
-use Rattle.conn_core.specs.declared.place.At.{At}
-use Rattle.conn_core.specs.declared.place.At.TheVariants as at
-use Rattle.conn_core.specs.declared.state.State.{State}
-use Rattle.conn_core.specs.declared.state.State.TheVariants as state
-use Rattle.conn_core.specs.Moves.{IsOwing}
-use Rattle.conn_core.specs.Place.{IsSaying, state_at}
-use Rattle.conn_core.specs.Shown.{Shown, why_at}
+use Rattle.conn_steps.specs.declared.at.At.{At}
+use Rattle.conn_steps.specs.declared.at.At.TheVariants as at
+use Rattle.conn_steps.specs.declared.state.State.{State}
+use Rattle.conn_steps.specs.declared.state.State.TheVariants as state
+use Rattle.conn_steps.specs.Moves.{IsOwing}
+use Rattle.conn_steps.specs.At.{IsSaying, state_at}
+use Rattle.conn_steps.specs.Shown.{Shown, why_at}
 
 -- a place that isn't Over names no why
 pub no_why : {B H : Type 0} (a : At B H) → state_at a ≢ state.Over → why_at a ≡ None
@@ -17,7 +17,7 @@ no_why {B} {H} (at.Answering f) h = refl
 no_why {B} {H} (at.Writing keeps) h = refl
 no_why {B} {H} (at.Handing x) h = refl
 no_why {B} {H} at.Refusing h = refl
-no_why {B} {H} (at.Taken x) h = refl
+no_why {B} {H} (at.Listening x) h = refl
 no_why {B} {H} (at.Speaking x) h = refl
 no_why {B} {H} at.Parting h = refl
 no_why {B} {H} (at.Over w) h = absurd (h refl)
@@ -34,7 +34,7 @@ saying_live {B} {H} (at.Answering f) is over = cc
 saying_live {B} {H} (at.Writing keeps) is over = cc
 saying_live {B} {H} (at.Handing h) is over = cc
 saying_live {B} {H} at.Refusing is over = cc
-saying_live {B} {H} (at.Taken h) is over = absurd is
+saying_live {B} {H} (at.Listening h) is over = absurd is
 saying_live {B} {H} (at.Speaking h) is over = cc
 saying_live {B} {H} at.Parting is over = cc
 saying_live {B} {H} (at.Over w) is over = absurd is

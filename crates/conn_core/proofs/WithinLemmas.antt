@@ -9,21 +9,22 @@ use Rattle.talk_core.specs.declared.ended.Life.{Life}
 use Rattle.talk_core.specs.declared.ended.Why.{Why}
 use Rattle.talk_core.specs.declared.ended.Why.TheVariants as why
 use Rattle.talk_core.specs.Lives.{lives_limit}
-use Rattle.conn_core.specs.declared.moments.Ending.{Ending}
-use Rattle.conn_core.specs.declared.moments.Late.{Late}
-use Rattle.conn_core.specs.declared.moments.Moments.{Moments}
-use Rattle.conn_core.specs.declared.state.Next.{Next}
-use Rattle.conn_core.specs.declared.state.State.{State}
-use Rattle.conn_core.specs.declared.state.State.TheVariants as state
-use Rattle.conn_core.specs.declared.state.Tick.{Tick}
-use Rattle.conn_core.specs.declared.state.Tick.TheVariants as tick
-use Rattle.conn_core.specs.Calls.{Feeds, Turns, Flushes, TurnEnds, IsOfFeed}
-use Rattle.conn_core.specs.Keeps.{Keeps, Move, Run, Refusal, Want, Read, Write, reaching, took_by, BegunNow, BegunFrom, BegunStill, BegunBy, no_bytes}
-use Rattle.conn_core.specs.Moments.{later, or_else, stuck_since, quiet_since}
-use Rattle.conn_core.specs.Moves.{Point, Makes, Goes, OwesRightly, turn_at, flush_at}
-use Rattle.conn_core.specs.Opened.{opened, untold, first_moments}
-use Rattle.conn_core.specs.Owner.{ended_as, late_as, IsLate, Ticks, drained_reading, drained_hijacked, drained_in, drained_from, drained}
-use Rattle.conn_core.specs.Shown.{Shown}
+use Rattle.conn_steps.specs.declared.moments.Ending.{Ending}
+use Rattle.conn_steps.specs.declared.moments.Late.{Late}
+use Rattle.conn_steps.specs.declared.moments.Moments.{Moments}
+use Rattle.conn_steps.specs.declared.state.Next.{Next}
+use Rattle.conn_steps.specs.declared.state.State.{State}
+use Rattle.conn_steps.specs.declared.state.State.TheVariants as state
+use Rattle.conn_steps.specs.declared.state.Tick.{Tick}
+use Rattle.conn_steps.specs.declared.state.Tick.TheVariants as tick
+use Rattle.conn_core.specs.Calls.{Feeds, Turns, Flushes}
+use Rattle.conn_steps.specs.Ends.{TurnEnds, IsOfFeed}
+use Rattle.conn_steps.specs.Keeps.{Keeps, Move, Run, Refusal, Want, Read, Write, reaching, took_by, BegunNow, BegunFrom, BegunStill, BegunBy, no_bytes}
+use Rattle.conn_steps.specs.Moments.{later, or_else, stuck_since, quiet_since}
+use Rattle.conn_steps.specs.Moves.{Point, Makes, Goes, OwesRightly, turn_at, flush_at}
+use Rattle.conn_steps.specs.Opened.{opened, untold, first_moments}
+use Rattle.conn_steps.specs.Owner.{ended_as, late_as, IsLate, Ticks, drained_reading, drained_hijacked, drained_in, drained_from, drained}
+use Rattle.conn_steps.specs.Shown.{Shown}
 use Rattle.conn_core.specs.Within.{MomentsBy, IsFrom, KeptFrom, LateWithin, WhyWithin, KeptWithin, LevelUpTo, ToldUpTo}
 
 -- what a move does to the moments
@@ -300,7 +301,7 @@ in_within state.Reading level least last c h = reading_within c.moments.begun le
 in_within state.Ready level least last c h = h
 in_within state.Answering level least last c h = h
 in_within state.Hijacked level least last c h =
-    hijacked_within (no_bytes c.owed) least last (record c { ending = record c.ending { left = true } })
+    hijacked_within (no_bytes c.owed) least last (record c { ending = record c.ending { dismissed = true } })
     (record { moments = h.moments; late = h.late; why = h.why })
 in_within state.Over level least last c h = h
 

@@ -6,62 +6,16 @@ use Rattle.rack_outside.specs.declared.link.LinkRead.{LinkRead}
 use Rattle.rack_outside.specs.declared.link.LinkRead.TheVariants as read
 use Rattle.talk_core.specs.declared.ended.Why.{Why}
 use Rattle.talk_core.specs.declared.ended.Why.TheVariants as why
-use Rattle.conn_core.specs.declared.moments.Late.{Late}
-use Rattle.conn_core.specs.declared.state.Next.{Next}
-use Rattle.conn_core.specs.declared.state.Next.TheVariants as next
-use Rattle.conn_core.specs.declared.state.State.{State}
-use Rattle.conn_core.specs.declared.state.State.TheVariants as state
-use Rattle.conn_core.specs.Keeps.{Keeps, Drains, Read}
-use Rattle.conn_core.specs.Shown.{Shown, Moved}
-use Rattle.conn_core.specs.Owner.{BeginsRightly}
-use Rattle.conn_core.specs.Moves.{size_of, ReadsOnce, Move, Point, Makes, Goes, turn_at, TurnStops, flush_at, FlushStops, OwesRightly}
-
--- why a turn or a flush may end a connection, by what became of its link: that a read told the peer's end, or that a
--- failure was counted. Whether the peer ended changes only with the first of them. One whose last request took too long
--- ends as that
-abbrev pub TurnEnds : Option Late → Option Why → Seen → Seen → Type 0
-TurnEnds late None s s' = s'.over ≡ s.over
-TurnEnds late (Some why.Closed) s s' = s'.over ≡ s.over
-TurnEnds late (Some why.PeerEnd) s s' = s'.over ≡ marked s.over
-TurnEnds late (Some (why.Idle by)) s s' = ⊥
-TurnEnds late (Some (why.TimedOut since now)) s s' = (late ≡ Some (record { since = since; now = now })) × (s'.over ≡ s.over)
-TurnEnds late (Some (why.Stalled since now)) s s' = ⊥
-TurnEnds late (Some (why.Unread level)) s s' = ⊥
-TurnEnds late (Some why.ReadFailed) s s' = (s'.over ≡ s.over) × Rose s.failed_reads s'.failed_reads
-TurnEnds late (Some why.WriteFailed) s s' = (s'.over ≡ s.over) × Rose s.failed_writes s'.failed_writes
-TurnEnds late (Some (why.Halted level)) s s' = ⊥
-TurnEnds late (Some why.NoMemory) s s' = s'.over ≡ s.over
-TurnEnds late (Some why.Hijacked) s s' = s'.over ≡ s.over
-
--- what became of the link in a read that answered so: whether the peer ended changes only where the read told it, and
--- a failure was counted
-abbrev pub FeedEnds : LinkRead → Seen → Seen → Type 0
-FeedEnds (read.Bytes n) s s' = s'.over ≡ s.over
-FeedEnds read.NotYet s s' = s'.over ≡ s.over
-FeedEnds read.End s s' = s'.over ≡ marked s.over
-FeedEnds read.Failed s s' = (s'.over ≡ s.over) × Rose s.failed_reads s'.failed_reads
-
--- why a `feed` may end a connection, and why a `flush` may, which reads nothing
-abbrev pub IsOfFeed : Option Why → Type 0
-IsOfFeed None = ⊤
-IsOfFeed (Some why.PeerEnd) = ⊤
-IsOfFeed (Some why.ReadFailed) = ⊤
-IsOfFeed (Some why.NoMemory) = ⊤
-IsOfFeed (Some why.Hijacked) = ⊤
-IsOfFeed (Some ended) = ⊥
-
-abbrev pub IsOfFlush : Option Why → Type 0
-IsOfFlush None = ⊤
-IsOfFlush (Some why.Closed) = ⊤
-IsOfFlush (Some (why.TimedOut since now)) = ⊤
-IsOfFlush (Some why.WriteFailed) = ⊤
-IsOfFlush (Some why.NoMemory) = ⊤
-IsOfFlush (Some why.Hijacked) = ⊤
-IsOfFlush (Some ended) = ⊥
-
--- a `feed` may be made: requests are read, or a hijacker has the connection and nothing is owed
-abbrev pub MayFeed : Shown → Type 0
-MayFeed c = (c.state ≡ state.Reading) ⊎ ((c.state ≡ state.Hijacked) × (c.owed ≡ []))
+use Rattle.conn_steps.specs.declared.moments.Late.{Late}
+use Rattle.conn_steps.specs.declared.state.Next.{Next}
+use Rattle.conn_steps.specs.declared.state.Next.TheVariants as next
+use Rattle.conn_steps.specs.declared.state.State.{State}
+use Rattle.conn_steps.specs.declared.state.State.TheVariants as state
+use Rattle.conn_steps.specs.Keeps.{Keeps, Drains, Read}
+use Rattle.conn_steps.specs.Shown.{Shown, Moved}
+use Rattle.conn_steps.specs.Owner.{BeginsRightly}
+use Rattle.conn_steps.specs.Moves.{size_of, ReadsOnce, Move, Point, Makes, Goes, turn_at, TurnStops, flush_at, FlushStops, OwesRightly}
+use Rattle.conn_steps.specs.Ends.{TurnEnds, IsOfFeed, IsOfFlush, RestsBehind, FeedEnds}
 
 -- what a `feed` answers: the first of Over, Ready, More and Waiting that stands. More tells that bytes came, or that a
 -- hijacker was told the peer's end
@@ -110,14 +64,6 @@ TurnTells next.Ready runs reads writes came old new s s' = ⊥
 TurnTells next.TurnOver runs reads writes came old new s s' = (new.state ≢ state.Over) × IsSpent runs reads writes
 TurnTells next.Over runs reads writes came old new s s' = new.state ≡ state.Over
 
--- the connection got on where it rests: behind it there are more replies that were sent whole, and fewer than 10,000
-abbrev pub RestsBehind : State → ℕ → ℕ → Type 0
-RestsBehind state.Reading before replied = (before < replied) × (replied < 10000)
-RestsBehind state.Ready before replied = (before < replied) × (replied < 10000)
-RestsBehind state.Answering before replied = before ≤ replied
-RestsBehind state.Hijacked before replied = before < replied
-RestsBehind state.Over before replied = ⊤
-
 -- a turn: at most 10 runs, 160 reads and 160 writes, made by these moves, behind which it stops
 pub record Turns (now : ℕ) (result : Next) (old new : Shown) (s s' : Seen) : Type 0 where
   pub runs : ℕ
@@ -135,23 +81,15 @@ pub record Turns (now : ℕ) (result : Next) (old new : Shown) (s s' : Seen) : T
   pub ends : TurnEnds None new.why s s'
   pub tells : TurnTells result runs reads writes moved.came old new s s'
 
--- these moves lead from a point to another, and at each of their points what is read on, stands or is refused is what
--- comes behind the requests that were run
-abbrev pub GoesRightly : ℕ → List Move → Point → Point → Type 0
-GoesRightly now [] m n = (n ≡ m) × BeginsRightly n.seen n.shown
-GoesRightly now (move ∷ moves) m n =
-    BeginsRightly m.seen m.shown × (next : Point) × Makes now move m next × OwesRightly next.shown × GoesRightly now moves next n
+-- at each point of these moves what is read on, stands or is refused is what comes behind the requests that were run
+abbrev pub AreRight : (now : ℕ) (moves : List Move) (m n : Point) → Goes now moves m n → Type 0
+AreRight now [] m n made = BeginsRightly n.seen n.shown
+AreRight now (move ∷ moves) m n made = BeginsRightly m.seen m.shown × AreRight now moves made.0 n made.3
 
--- a turn of such moves
-pub record TurnsRightly (now : ℕ) (old new : Shown) (s s' : Seen) : Type 0 where
-  pub runs : ℕ
-  pub reads : ℕ
-  pub writes : ℕ
-  pub few : (runs ≤ 10) × (reads ≤ 160) × (writes ≤ 160)
-  pub moves : List Move
-  pub waited : Bool
-  pub made : GoesRightly now moves (turn_at old s 0 0 0 false) (turn_at new s' runs reads writes waited)
-  pub stops : TurnStops (turn_at new s' runs reads writes waited)
+-- a turn, at each point of which that is so
+pub record TurnsRightly (now : ℕ) (result : Next) (old new : Shown) (s s' : Seen) : Type 0 where
+  pub turns : Turns now result old new s s'
+  pub rightly : AreRight now turns.moves (turn_at old s 0 0 0 false) (turn_at new s' turns.runs turns.reads turns.writes turns.waited) turns.made
 
 -- what a `flush` leaves, by the state before it: behind a reply the connection rests as behind one, and a hijacker that
 -- has it keeps it

@@ -3,10 +3,10 @@
 use Rattle.std.specs.Prelude.{◌≡◌, ◌≢◌, ℕ, ◌≤◌, false, List, [], ◌∷◌, ◌++◌, Option, None, Some, ◌⊎◌, ⊤}
 use Rattle.rack_outside.specs.Link.{Ahead}
 use Rattle.talk_core.specs.declared.ended.Why.TheVariants as why
-use Rattle.conn_core.specs.declared.state.State.TheVariants as state
+use Rattle.conn_steps.specs.declared.state.State.TheVariants as state
 use Rattle.conn_core.specs.Calls.{IsListening}
-use Rattle.conn_core.specs.Moves.{Move, Run, Refusal, Want, Read, Write}
-use Rattle.conn_core.specs.Shown.{Shown}
+use Rattle.conn_steps.specs.Moves.{Move, Run, Refusal, Want, Read, Write}
+use Rattle.conn_steps.specs.Shown.{Shown}
 
 -- none of these moves is a read
 abbrev pub AreUnread : List Move → Type 0

@@ -3,9 +3,9 @@ use Rattle.std.specs.Prelude.{◌≡◌, ℕ, Bool, true, Option, None, Some, �
 use Rattle.rack_types.specs.declared.peer.Local.{Local}
 use Rattle.talk_core.specs.declared.ended.Why.{Why}
 use Rattle.talk_core.specs.declared.ended.Why.TheVariants as why
-use Rattle.conn_core.specs.Opened.{untold}
-use Rattle.conn_core.specs.Owner.{MayPlace}
-use Rattle.conn_core.specs.Shown.{Shown}
+use Rattle.conn_steps.specs.Opened.{untold}
+use Rattle.conn_steps.specs.Owner.{MayPlace}
+use Rattle.conn_steps.specs.Shown.{Shown}
 use Rattle.conn_core.specs.Within.{KeptFrom}
 
 -- the why has no level, and no two moments: what ended the connection, if anything did, are its own bytes, its link or

@@ -3,9 +3,9 @@ use Rattle.std.specs.Prelude.{◌≡◌, ℕ, ◌≤◌, false, Option, None, So
 use Rattle.talk_core.specs.declared.ended.IdleBy.TheVariants.{Clock, Drain}
 use Rattle.talk_core.specs.declared.ended.Why.{Why}
 use Rattle.talk_core.specs.declared.ended.Why.TheVariants as why
-use Rattle.conn_core.specs.declared.moments.Late.{Late}
-use Rattle.conn_core.specs.declared.moments.Moments.{Moments}
-use Rattle.conn_core.specs.Shown.{Shown}
+use Rattle.conn_steps.specs.declared.moments.Late.{Late}
+use Rattle.conn_steps.specs.declared.moments.Moments.{Moments}
+use Rattle.conn_steps.specs.Shown.{Shown}
 
 -- what a call that was handed this moment leaves of the moments that count for the limits: each is as it was, or is this
 -- one; and that of a begun request may be none
@@ -76,5 +76,5 @@ LevelUpTo most (Some why.Hijacked) = ⊤
 pub record ToldUpTo (most : ℕ) (c : Shown) : Type 0 where
   pub told : c.ending.told ≤ most
   pub closing : (c.ending.closing ≡ None) ⊎ (1 ≤ most)
-  pub left : (c.ending.left ≡ false) ⊎ (1 ≤ most)
+  pub dismissed : (c.ending.dismissed ≡ false) ⊎ (1 ≤ most)
   pub why : LevelUpTo most c.why

@@ -1,11 +1,9 @@
 // What the calls of a connection answer.
 ghost use Rattle.std.specs.Prelude.{◌≡◌, ◌==◌, if◌then◌else◌};
 ghost use Rattle.conn_core.specs.Answers.{FedSo, TurnedSo, FlushedSo};
-ghost use Rattle.conn_core.specs.Shown.{replied_at as replied};
+ghost use Rattle.conn_steps.specs.Shown.{replied_at as replied};
 
-use crate::left::Left;
-use crate::place::At;
-use crate::state::Next;
+use conn_steps::{At, Budget, Next};
 use rack_types::Body;
 
 // How many replies to requests were sent whole, by the place.
@@ -18,7 +16,7 @@ pub(crate) fn replied_at<B: Body, H>(at: &At<B, H>, calls: u64) -> u64
         | At::Asked
         | At::Refused(_)
         | At::Refusing
-        | At::Taken(_)
+        | At::Listening(_)
         | At::Speaking(_)
         | At::Parting
         | At::Over(_) => calls,
@@ -37,15 +35,15 @@ pub(crate) fn fed<B: Body, H>(at: &At<B, H>) -> Next
         | At::Writing(_)
         | At::Handing(_)
         | At::Refusing
-        | At::Taken(_)
+        | At::Listening(_)
         | At::Speaking(_)
         | At::Parting => Next::More,
     }
 }
 
 // What a turn answers, of which this is left, and in which more replies were sent whole or not.
-pub(crate) fn turned<B: Body, H>(at: &At<B, H>, left: &Left, more: bool) -> Next
-    ensures { TurnedSo result at.now left.now more }
+pub(crate) fn turned<B: Body, H>(at: &At<B, H>, budget: &Budget, more: bool) -> Next
+    ensures { TurnedSo result at.now budget.now more }
 {
     match at {
         At::Over(_) => Next::Over,
@@ -56,12 +54,12 @@ pub(crate) fn turned<B: Body, H>(at: &At<B, H>, left: &Left, more: bool) -> Next
         | At::Writing(_)
         | At::Handing(_)
         | At::Refusing
-        | At::Taken(_)
+        | At::Listening(_)
         | At::Speaking(_)
         | At::Parting => {
-            if left.is_spent() {
+            if budget.is_spent() {
                 Next::TurnOver
-            } else if left.came > 0 || more {
+            } else if budget.came > 0 || more {
                 Next::More
             } else {
                 Next::Waiting
@@ -77,7 +75,7 @@ pub(crate) fn flushed<B: Body, H>(at: &At<B, H>, writes: u64, handed: bool) -> N
     match at {
         At::Over(_) => Next::Over,
         At::Asked | At::Refused(_) => told(writes, Next::Ready),
-        At::Reading | At::Taken(_) => told(writes, Next::More),
+        At::Reading | At::Listening(_) => told(writes, Next::More),
         At::Answering(_) | At::Writing(_) | At::Handing(_) | At::Refusing => told(
             writes,
             Next::Waiting,

@@ -4,36 +4,29 @@ ghost use Rattle.rack_types.specs.Env.{Pairs};
 ghost use Rattle.rack_types.specs.Runner.{Becomes};
 ghost use Rattle.rack_types.specs.Limits.{stock_limits};
 ghost use Rattle.talk_core.specs.Ended.{Shows, IsEnded, StandsForTalk};
+ghost use Rattle.talk_core.specs.Tail.{voice_of};
 ghost use Rattle.talk_core.specs.Teller.{Stacks, Teller, last_phase};
-ghost use Rattle.conn_core.specs.Answered.{HasAnswered};
-ghost use Rattle.conn_core.specs.Calls.{Feeds, MayFeed, Turns, TurnsRightly, Flushes};
+ghost use Rattle.conn_steps.specs.Answered.{HasAnswered};
+ghost use Rattle.conn_core.specs.Calls.{Feeds, Turns, TurnsRightly, Flushes};
+ghost use Rattle.conn_steps.specs.Ends.{MayFeed};
 ghost use Rattle.conn_core.specs.Holds.{Holds, HoldsWith};
-ghost use Rattle.conn_core.specs.Keeps.{reaching};
-ghost use Rattle.conn_core.specs.Moves.{IsOwing};
-ghost use Rattle.conn_core.specs.Owner.{BeginsRightly, MayPlace};
-ghost use Rattle.conn_core.specs.Plain.{IsPlainEnd, EndsOver};
-ghost use Rattle.conn_core.specs.Ran.{Ran};
+ghost use Rattle.conn_steps.specs.Keeps.{reaching};
+ghost use Rattle.conn_steps.specs.Moves.{IsOwing};
+ghost use Rattle.conn_steps.specs.Owner.{BeginsRightly, MayPlace};
+ghost use Rattle.conn_steps.specs.Plain.{IsPlainEnd, EndsByReplies};
+ghost use Rattle.conn_steps.specs.Ran.{Ran};
 ghost use Rattle.conn_core.specs.Shown.{shown, number_of, key_of, link_of};
-ghost use Rattle.conn_core.specs.Opened.{opened, IsUnopened, IsFresh};
+ghost use Rattle.conn_steps.specs.Opened.{opened, IsUnopened};
 
-use crate::held::Held;
-use crate::inside::Inside;
-use crate::moments::{Ending, Moments};
-use crate::place::{At, close, is_saying, state_at};
-use crate::state::{Next, State};
-use crate::steps::begins;
-use circular_buffer::HeapCircularBuffer;
+use crate::feed::feed;
+use crate::flush::flush;
+use crate::turn::turn;
+use conn_steps::{At, Inside, Next, State, close, is_saying, state_at};
 use hijack_core::Hijack;
-use message_framing::Intake;
 use rack_outside::{Link, Numbered};
-use rack_types::{Body, Bytes, Env, Input, Limits, Local, NoMemory, Peer, Runner};
-use std::alloc::{AllocError, Global};
-use talk_core::{Ended, Life, Why};
-
-// The bytes of the output ring.
-const RING: usize = 65_536;
-// How many lives there is room for.
-pub(crate) const LIVES: usize = 64;
+use rack_types::{Body, Limits, Local, Peer, Runner};
+use std::alloc::Global;
+use talk_core::{Ended, Why};
 
 /// A connection, from its opening to its end. It is spent by `finish`.
 ///
@@ -84,11 +77,11 @@ impl<L: Link, B: Body, H: Hijack + Drop> Conn<L, B, H> {
         requires fresh { Shows (L.seen link) peer [] [] false }
         ensures opened { IfOk result (λ c. (shown c ≡ opened peer local phase now) × (number_of c ≡ number) × (link_of c ≡ link)) }
         ensures unwatched { IfOk result (λ c. key_of c ≡ None) }
-        ensures holds { IfOk result (λ c. (S : Stacks H) → Holds L.seen (record { says = H.says; ends = H.ends }) S c) }
+        ensures holds { IfOk result (λ c. (S : Stacks H) → Holds L.seen (voice_of H.Hijack) S c) }
         ensures refused { IfErr result (λ e. IsUnopened number link e) }
-        ensures ended { IfErr result (λ e. (S : Stacks H) → IsEnded L L.seen (record { says = H.says; ends = H.ends }) S local peer e) }
+        ensures ended { IfErr result (λ e. (S : Stacks H) → IsEnded L L.seen (voice_of H.Hijack) S local peer e) }
     {
-        match inside(alloc, peer, local, limits, phase, now) {
+        match Inside::new(alloc, peer, local, limits, phase, now) {
             Ok(inside) => Ok(Conn {
                 number,
                 watched: false,
@@ -161,7 +154,7 @@ impl<L: Link, B: Body, H: Hijack + Drop> Conn<L, B, H> {
     /// Whether the last read of its link had to wait, so that one more at once would find nothing. False
     /// before the first read. It saves such a read, and no clause speaks of it.
     pub fn read_waited(&self) -> bool {
-        self.inside.held.waited()
+        self.inside.unfed.waited()
     }
 
     /// Its link, lent.
@@ -180,21 +173,21 @@ impl<L: Link, B: Body, H: Hijack + Drop> Conn<L, B, H> {
         ensures number { number_of self.new ≡ number_of self.old }
         ensures key { key_of self.new ≡ key_of self.old }
         ensures feeds { Feeds now result (reaching now (shown self.old)) (shown self.new) (L.seen (link_of self.old)) (L.seen (link_of self.new)) }
-        ensures any { (T : Teller H) → HoldsWith L.seen (record { says = H.says; ends = H.ends }) T self.old → HoldsWith L.seen (record { says = H.says; ends = H.ends }) T self.new }
-        ensures holds { (S : Stacks H) → Holds L.seen (record { says = H.says; ends = H.ends }) S self.old → Holds L.seen (record { says = H.says; ends = H.ends }) S self.new }
+        ensures any { (T : Teller H) → HoldsWith L.seen (voice_of H.Hijack) T self.old → HoldsWith L.seen (voice_of H.Hijack) T self.new }
+        ensures holds { (S : Stacks H) → Holds L.seen (voice_of H.Hijack) S self.old → Holds L.seen (voice_of H.Hijack) S self.new }
     {
         let inside: &mut Inside<B, H> = &mut self.inside;
         inside.moments.reach(now);
-        inside.feed(&mut self.link, now)
+        feed(inside, &mut self.link, now)
     }
 
     /// Answers requests one behind the other: each is run once, its reply is framed into the ring and
-    /// written, and the bytes that are held are fed before any are read.
+    /// written, and the unfed bytes are fed before any are read.
     ///
     /// What stands is taken up before anything is read, and what is owed is written before anything is taken
     /// up. A read offers room for 16,384 bytes, and a write the front of what is owed, up to 65,536 bytes.
     ///
-    /// Where a reply hands the connection to a hijacker, that one is told the bytes that are held, and what it
+    /// Where a reply hands the connection to a hijacker, that one is told the unfed bytes, and what it
     /// says is written; nothing is read for it.
     ///
     /// It makes at most 10 runs, 160 reads and 160 writes. Behind its tenth run it still writes that run's
@@ -207,34 +200,34 @@ impl<L: Link, B: Body, H: Hijack + Drop> Conn<L, B, H> {
     /// came, one to each request by its number; and what the runner tells grew by these answers, in order, and by the
     /// environments of the requests that were run. Only the last run may have been refused: then no byte of a reply to
     /// it was sent, and the connection is over for want of memory. Where the connection held before and its link tells
-    /// what it gave, the bytes held at each run are all that stand behind its request then.
+    /// what it gave, the unfed bytes at each run are all that stand behind its request then.
     pub fn turn<R: Runner<B, H>>(&mut self, runner: &mut R, now: u64) -> Next
         requires ready { (shown self.old).state ≡ State.Ready }
         requires room { R.runs runner.old ≤ 2 ^ 64 - 11 }
         ensures number { number_of self.new ≡ number_of self.old }
         ensures key { key_of self.new ≡ key_of self.old }
         ensures turns { Turns now result (reaching now (shown self.old)) (shown self.new) (L.seen (link_of self.old)) (L.seen (link_of self.new)) }
-        ensures rightly { (T : Teller H) → HoldsWith L.seen (record { says = H.says; ends = H.ends }) T self.old → TurnsRightly now (reaching now (shown self.old)) (shown self.new) (L.seen (link_of self.old)) (L.seen (link_of self.new)) }
+        ensures rightly { (T : Teller H) → HoldsWith L.seen (voice_of H.Hijack) T self.old → TurnsRightly now result (reaching now (shown self.old)) (shown self.new) (L.seen (link_of self.old)) (L.seen (link_of self.new)) }
         ensures runs { R.runs runner.new + (shown self.old).calls ≡ R.runs runner.old + (shown self.new).calls }
         ensures becomes { Becomes R.becomes runner.old runner.new }
         ensures steady { R.steady ≡ true → (ps : Pairs) (input : List ℕ) → R.answer runner.new ps input ≡ R.answer runner.old ps input }
-        ensures any { (T : Teller H) → HoldsWith L.seen (record { says = H.says; ends = H.ends }) T self.old
-            → Ran (λ U. HoldsWith L.seen (record { says = H.says; ends = H.ends }) U self.new) T R.answer (shown self.old).calls (L.seen (link_of self.old)) (L.seen (link_of self.new)) (shown self.new)
+        ensures any { (T : Teller H) → HoldsWith L.seen (voice_of H.Hijack) T self.old
+            → Ran (λ U. HoldsWith L.seen (voice_of H.Hijack) U self.new) T R.answer (shown self.old).calls (L.seen (link_of self.old)) (L.seen (link_of self.new)) (shown self.new)
             (R.answered runner.old) (R.answered runner.new) (R.asked runner.old) (R.asked runner.new) }
         ensures holds { (S : Stacks H) → R.steady ≡ true
             → ((ps : Pairs) (input : List ℕ) → S (last_phase (shown self.old).lives) ps input ≡ R.answer runner.old ps input)
-            → Holds L.seen (record { says = H.says; ends = H.ends }) S self.old → Holds L.seen (record { says = H.says; ends = H.ends }) S self.new }
+            → Holds L.seen (voice_of H.Hijack) S self.old → Holds L.seen (voice_of H.Hijack) S self.new }
     {
         let inside: &mut Inside<B, H> = &mut self.inside;
         inside.moments.reach(now);
-        inside.turn(&mut self.link, runner, now)
+        turn(inside, &mut self.link, runner, now)
     }
 
     /// Fills the ring from the reply that is under way and writes all of it, at most 16 times. Where the
-    /// link took all of the reply and the connection goes on, the bytes that are held are fed, or a hijacker
+    /// link took all of the reply and the connection goes on, the unfed bytes are fed, or a hijacker
     /// that takes the connection over is told them. What a hijacker said is written in the same way.
     ///
-    /// Memory is taken only where a body is asked for more, where bytes that are held are fed, by a hijacker, and
+    /// Memory is taken only where a body is asked for more, where unfed bytes are fed, by a hijacker, and
     /// by a link in memory.
     ///
     /// It stops only where the link had to wait, where nothing is owed, or behind its 16th write. Where memory
@@ -244,12 +237,12 @@ impl<L: Link, B: Body, H: Hijack + Drop> Conn<L, B, H> {
         ensures number { number_of self.new ≡ number_of self.old }
         ensures key { key_of self.new ≡ key_of self.old }
         ensures flushes { Flushes now result (reaching now (shown self.old)) (shown self.new) (L.seen (link_of self.old)) (L.seen (link_of self.new)) }
-        ensures any { (T : Teller H) → HoldsWith L.seen (record { says = H.says; ends = H.ends }) T self.old → HoldsWith L.seen (record { says = H.says; ends = H.ends }) T self.new }
-        ensures holds { (S : Stacks H) → Holds L.seen (record { says = H.says; ends = H.ends }) S self.old → Holds L.seen (record { says = H.says; ends = H.ends }) S self.new }
+        ensures any { (T : Teller H) → HoldsWith L.seen (voice_of H.Hijack) T self.old → HoldsWith L.seen (voice_of H.Hijack) T self.new }
+        ensures holds { (S : Stacks H) → Holds L.seen (voice_of H.Hijack) S self.old → Holds L.seen (voice_of H.Hijack) S self.new }
     {
         let inside: &mut Inside<B, H> = &mut self.inside;
         inside.moments.reach(now);
-        inside.flush(&mut self.link, now)
+        flush(inside, &mut self.link, now)
     }
 
     /// Hands back what the connection was.
@@ -259,9 +252,9 @@ impl<L: Link, B: Body, H: Hijack + Drop> Conn<L, B, H> {
         ensures given { (result.number ≡ number_of self) × (result.link ≡ link_of self) × (result.calls ≡ (shown self).calls)
             × (result.lives.items ≡ (shown self).lives) }
         ensures rest { (result.told ≡ (shown self).ending.told) × (result.closing ≡ (shown self).ending.closing) }
-        ensures ended { (S : Stacks H) → Holds L.seen (record { says = H.says; ends = H.ends }) S self → IsEnded L L.seen (record { says = H.says; ends = H.ends }) S (shown self).local (shown self).peer result }
-        ensures plainly { (S : Stacks H) → Holds L.seen (record { says = H.says; ends = H.ends }) S self → IsPlainEnd L L.seen (record { says = H.says; ends = H.ends }) S (shown self).local (shown self).peer (shown self).ending result }
-        ensures any { (T : Teller H) → HoldsWith L.seen (record { says = H.says; ends = H.ends }) T self → EndsOver L L.seen (record { says = H.says; ends = H.ends }) T (shown self).peer (shown self).ending result }
+        ensures ended { (S : Stacks H) → Holds L.seen (voice_of H.Hijack) S self → IsEnded L L.seen (voice_of H.Hijack) S (shown self).local (shown self).peer result }
+        ensures plainly { (S : Stacks H) → Holds L.seen (voice_of H.Hijack) S self → IsPlainEnd L L.seen (voice_of H.Hijack) S (shown self).local (shown self).peer (shown self).ending result }
+        ensures any { (T : Teller H) → HoldsWith L.seen (voice_of H.Hijack) T self → EndsByReplies L L.seen (voice_of H.Hijack) T (shown self).peer (shown self).ending result }
     {
         let Conn {
             number,
@@ -276,7 +269,7 @@ impl<L: Link, B: Body, H: Hijack + Drop> Conn<L, B, H> {
             local: _,
             lives,
             intake: _,
-            held: _,
+            unfed: _,
             env: _,
             ring: _,
             calls,
@@ -303,7 +296,7 @@ impl<L: Link, B: Body, H: Hijack + Drop> Conn<L, B, H> {
     }
 
     /// Lets it go as it is, and hands back its link.
-    pub fn leave(self) -> L
+    pub fn abandon(self) -> L
         ensures { result ≡ link_of self }
     {
         let Conn {
@@ -313,93 +306,22 @@ impl<L: Link, B: Body, H: Hijack + Drop> Conn<L, B, H> {
             link,
             inside,
         } = self;
-        let_go(Box::into_inner(inside));
+        Box::into_inner(inside).let_go();
         link
     }
 
     /// Laws: while it is carried that it stands for its talk, a connection that isn't over does. Where more of a
     /// request is to be read, all requests in the bytes that came were run, and a moment is kept exactly where one is
-    /// begun behind them; where a request stands, those before it were run, and the bytes held are all that stand behind
+    /// begun behind them; where a request stands, those before it were run, and the unfed bytes are all that stand behind
     /// it; and where a refusal stands, all before it were run. One that may be placed anew has answered all that it was
     /// asked.
     pub fn stands(&self)
-        ensures talk { (S : Stacks H) → (shown self.now).state ≢ State.Over → Holds L.seen (record { says = H.says; ends = H.ends }) S self.now
-            → StandsForTalk (L.seen (link_of self.now)) (record { says = H.says; ends = H.ends }) S (shown self.now).local (shown self.now).peer (shown self.now).lives (shown self.now).calls
+        ensures talk { (S : Stacks H) → (shown self.now).state ≢ State.Over → Holds L.seen (voice_of H.Hijack) S self.now
+            → StandsForTalk (L.seen (link_of self.now)) (voice_of H.Hijack) S (shown self.now).local (shown self.now).peer (shown self.now).lives (shown self.now).calls
             (shown self.now).ending.closing (is_some (shown self.now).ending.late) }
-        ensures begun { (T : Teller H) → HoldsWith L.seen (record { says = H.says; ends = H.ends }) T self.now → BeginsRightly (L.seen (link_of self.now)) (shown self.now) }
-        ensures answered { (T : Teller H) → MayPlace (shown self.now) → HoldsWith L.seen (record { says = H.says; ends = H.ends }) T self.now → HasAnswered (L.seen (link_of self.now)) T (shown self.now) }
+        ensures begun { (T : Teller H) → HoldsWith L.seen (voice_of H.Hijack) T self.now → BeginsRightly (L.seen (link_of self.now)) (shown self.now) }
+        ensures answered { (T : Teller H) → MayPlace (shown self.now) → HoldsWith L.seen (voice_of H.Hijack) T self.now → HasAnswered (L.seen (link_of self.now)) T (shown self.now) }
     {
         let _state = self.state();
     }
-}
-
-// A connection's parts at its start, in one block.
-fn inside<B: Body, H: Drop>(
-    alloc: Global,
-    peer: Peer,
-    local: Local,
-    limits: Limits,
-    phase: u32,
-    now: u64,
-) -> Result<Box<Inside<B, H>>, NoMemory>
-    requires limits { limits ≡ stock_limits }
-    ensures { IfOk result (λ inside. IsFresh peer local phase now inside.value) }
-{
-    let intake = Intake::new(alloc, limits)?;
-    let held = Held::new(alloc)?;
-    let ring = HeapCircularBuffer::with_capacity(alloc, RING)?;
-    let mut lives = Vec::with_capacity(alloc, LIVES)?;
-    lives.push(Life { first: 0, phase }).unwrap();
-    let env = Env::new(alloc, Input::new(Bytes::new(Vec::new(alloc))));
-    let at = At::Reading;
-    let begun = begins(&at, &intake, None, now);
-    match Box::new(
-        alloc,
-        Inside {
-            alloc,
-            peer,
-            local,
-            lives,
-            intake,
-            held,
-            env,
-            ring,
-            calls: 0,
-            taken: 0,
-            ending: Ending {
-                told: 0,
-                closing: None,
-                late: None,
-                left: false,
-            },
-            moments: Moments::new(now, begun),
-            at,
-        },
-    ) {
-        Ok(inside) => Ok(inside),
-        Err(refused) => {
-            let_go(refused.value);
-            Err(AllocError)
-        }
-    }
-}
-
-// Lets the parts of a connection go that is not opened.
-fn let_go<B: Body, H: Drop>(inside: Inside<B, H>) {
-    let Inside {
-        alloc: _,
-        peer: _,
-        local: _,
-        lives: _,
-        intake: _,
-        held: _,
-        env: _,
-        ring: _,
-        calls: _,
-        taken: _,
-        ending: _,
-        moments: _,
-        at,
-    } = inside;
-    close(at);
 }

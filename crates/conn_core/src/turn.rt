@@ -2,135 +2,136 @@
 ghost use Rattle.std.specs.Prelude.{◌≡◌, ◌<◌, ◌≤◌, ◌+◌, ◌-◌, ◌^◌, ℕ, List, true};
 ghost use Rattle.rack_types.specs.Env.{Pairs};
 ghost use Rattle.rack_types.specs.Runner.{Becomes};
+ghost use Rattle.talk_core.specs.Tail.{voice_of};
 ghost use Rattle.talk_core.specs.Teller.{Teller};
 ghost use Rattle.conn_core.specs.Calls.{Turns, TurnsRightly};
-ghost use Rattle.conn_core.specs.Holds.{HoldsBy};
-ghost use Rattle.conn_core.specs.Inner.{TellsFrom, Steps, StepLeaves, StepMoves};
-ghost use Rattle.conn_core.specs.Place.{IsSaying, state_at as place_as};
-ghost use Rattle.conn_core.specs.Ran.{Ran};
-ghost use Rattle.conn_core.specs.Shown.{shows};
+ghost use Rattle.conn_steps.specs.Holds.{HoldsBy};
+ghost use Rattle.conn_steps.specs.Inner.{TellsFrom, Steps, StepLeaves, StepMoves};
+ghost use Rattle.conn_steps.specs.At.{IsSaying, state_at as place_as};
+ghost use Rattle.conn_steps.specs.Ran.{Ran};
+ghost use Rattle.conn_steps.specs.Shown.{shows};
 
 use crate::answers::{replied_at, turned};
-use crate::inside::Inside;
-use crate::left::{Left, Said, Step};
-use crate::place::{is_saying, state_at};
-use crate::state::{Next, State};
+use conn_steps::{Budget, Inside, Next, SayStep, State, Step, is_saying, state_at};
 use hijack_core::Hijack;
 use rack_outside::{Link, LinkRead};
 use rack_types::{Body, Runner};
 
-impl<B: Body, H: Hijack + Drop> Inside<B, H> {
-    // One write, where one is left. None is made behind the last read.
-    fn speak<L: Link>(&mut self, link: &mut L, left: &mut Left, now: u64) -> Step
-        requires says { IsSaying self.old.at }
-        ensures holds { (T : Teller H) → HoldsBy (record { says = H.says; ends = H.ends }) T (L.seen link.old) self.old → HoldsBy (record { says = H.says; ends = H.ends }) T (L.seen link.new) self.new }
-        ensures steps { Steps (shows self.old) (shows self.new) (L.seen link.old) (L.seen link.new) left.old left.new }
-        ensures moves { StepMoves now result (shows self.old) (shows self.new) (L.seen link.old) (L.seen link.new) left.old left.new }
-        ensures leaves { StepLeaves result left.old left.new self.old.at self.new.at (L.seen link.old) (L.seen link.new) }
-        ensures runs { left.new.runs ≡ left.old.runs }
-    {
-        if left.reads == 0 || left.writes == 0 {
-            return Step::Stops;
+// One write, where one is left. None is made behind the last read.
+fn speak<L: Link, B: Body, H: Hijack + Drop>(
+    inside: &mut Inside<B, H>,
+    link: &mut L,
+    budget: &mut Budget,
+    now: u64,
+) -> Step
+    requires says { IsSaying inside.old.at }
+    ensures holds { (T : Teller H) → HoldsBy (voice_of H.Hijack) T (L.seen link.old) inside.old → HoldsBy (voice_of H.Hijack) T (L.seen link.new) inside.new }
+    ensures steps { Steps (shows inside.old) (shows inside.new) (L.seen link.old) (L.seen link.new) budget.old budget.new }
+    ensures moves { StepMoves now result (shows inside.old) (shows inside.new) (L.seen link.old) (L.seen link.new) budget.old budget.new }
+    ensures leaves { StepLeaves result budget.old budget.new inside.old.at inside.new.at (L.seen link.old) (L.seen link.new) }
+    ensures runs { budget.new.runs ≡ budget.old.runs }
+{
+    if budget.reads == 0 || budget.writes == 0 {
+        return Step::Stops;
+    }
+    match inside.say(link, now) {
+        SayStep::Unwritten => Step::GoesOn,
+        SayStep::Wrote => {
+            budget.writes -= 1;
+            Step::GoesOn
         }
-        match self.say(link, now) {
-            Said::Unwritten => Step::GoesOn,
-            Said::Wrote => {
-                left.writes -= 1;
-                Step::GoesOn
-            }
-            Said::Waits => {
-                left.writes -= 1;
-                Step::Waits
-            }
+        SayStep::Waits => {
+            budget.writes -= 1;
+            Step::Waits
         }
     }
+}
 
-    // One run, read or write, where one is left.
-    #[tactic(auto, using(crate::proofs::RanLemmas::becomes_none))]
-    fn step<L: Link, R: Runner<B, H>>(
-        &mut self,
-        link: &mut L,
-        runner: &mut R,
-        left: &mut Left,
-        now: u64,
-    ) -> Step
-        requires room { R.runs runner.old + left.old.runs < 2 ^ 64 }
-        ensures holds { R.steady ≡ true → (T : Teller H)
-            → TellsFrom T (R.answer runner.old) self.old.local self.old.peer self.new.ending.closing self.old.calls self.new.calls
-            → HoldsBy (record { says = H.says; ends = H.ends }) T (L.seen link.old) self.old → HoldsBy (record { says = H.says; ends = H.ends }) T (L.seen link.new) self.new }
-        ensures any { (T : Teller H) → HoldsBy (record { says = H.says; ends = H.ends }) T (L.seen link.old) self.old
-            → Ran (λ U. HoldsBy (record { says = H.says; ends = H.ends }) U (L.seen link.new) self.new) T R.answer self.old.calls (L.seen link.old) (L.seen link.new) (shows self.new)
-            (R.answered runner.old) (R.answered runner.new) (R.asked runner.old) (R.asked runner.new) }
-        ensures steps { Steps (shows self.old) (shows self.new) (L.seen link.old) (L.seen link.new) left.old left.new }
-        ensures moves { StepMoves now result (shows self.old) (shows self.new) (L.seen link.old) (L.seen link.new) left.old left.new }
-        ensures leaves { StepLeaves result left.old left.new self.old.at self.new.at (L.seen link.old) (L.seen link.new) }
-        ensures counts { R.runs runner.new + left.new.runs ≡ R.runs runner.old + left.old.runs }
-        ensures becomes { Becomes R.becomes runner.old runner.new }
-        ensures steady { R.steady ≡ true → (ps : Pairs) (input : List ℕ) → R.answer runner.new ps input ≡ R.answer runner.old ps input }
-    {
-        match state_at(&self.at) {
-            State::Over => Step::Stops,
-            State::Hijacked => if is_saying(&self.at) {
-                self.speak(link, left, now)
-            } else {
-                Step::Stops
-            },
-            State::Reading => {
-                if left.is_spent() {
-                    return Step::Stops;
-                }
-                left.reads -= 1;
-                match self.read(link, now) {
-                    LinkRead::NotYet => Step::Waits,
-                    LinkRead::Bytes(n) => {
-                        left.came = left.came.saturating_add(n as u64);
-                        Step::GoesOn
-                    }
-                    LinkRead::End | LinkRead::Failed => Step::GoesOn,
-                }
+// One run, read or write, where one is left.
+#[tactic(auto, using(conn_steps::proofs::CallerLemmas::becomes_none))]
+fn step<L: Link, B: Body, H: Hijack + Drop, R: Runner<B, H>>(
+    inside: &mut Inside<B, H>,
+    link: &mut L,
+    runner: &mut R,
+    budget: &mut Budget,
+    now: u64,
+) -> Step
+    requires room { R.runs runner.old + budget.old.runs < 2 ^ 64 }
+    ensures holds { R.steady ≡ true → (T : Teller H)
+        → TellsFrom T (R.answer runner.old) inside.old.local inside.old.peer inside.new.ending.closing inside.old.calls inside.new.calls
+        → HoldsBy (voice_of H.Hijack) T (L.seen link.old) inside.old → HoldsBy (voice_of H.Hijack) T (L.seen link.new) inside.new }
+    ensures any { (T : Teller H) → HoldsBy (voice_of H.Hijack) T (L.seen link.old) inside.old
+        → Ran (λ U. HoldsBy (voice_of H.Hijack) U (L.seen link.new) inside.new) T R.answer inside.old.calls (L.seen link.old) (L.seen link.new) (shows inside.new)
+        (R.answered runner.old) (R.answered runner.new) (R.asked runner.old) (R.asked runner.new) }
+    ensures steps { Steps (shows inside.old) (shows inside.new) (L.seen link.old) (L.seen link.new) budget.old budget.new }
+    ensures moves { StepMoves now result (shows inside.old) (shows inside.new) (L.seen link.old) (L.seen link.new) budget.old budget.new }
+    ensures leaves { StepLeaves result budget.old budget.new inside.old.at inside.new.at (L.seen link.old) (L.seen link.new) }
+    ensures counts { R.runs runner.new + budget.new.runs ≡ R.runs runner.old + budget.old.runs }
+    ensures becomes { Becomes R.becomes runner.old runner.new }
+    ensures steady { R.steady ≡ true → (ps : Pairs) (input : List ℕ) → R.answer runner.new ps input ≡ R.answer runner.old ps input }
+{
+    match state_at(&inside.at) {
+        State::Over => Step::Stops,
+        State::Hijacked => if is_saying(&inside.at) {
+            speak(inside, link, budget, now)
+        } else {
+            Step::Stops
+        },
+        State::Reading => {
+            if budget.is_spent() {
+                return Step::Stops;
             }
-            State::Ready => {
-                if left.is_spent() {
-                    return Step::Stops;
+            budget.reads -= 1;
+            match inside.read(link, now) {
+                LinkRead::NotYet => Step::Waits,
+                LinkRead::Bytes(n) => {
+                    budget.came = budget.came.saturating_add(n as u64);
+                    Step::GoesOn
                 }
-                self.start(runner, left, now);
-                Step::GoesOn
+                LinkRead::End | LinkRead::Failed => Step::GoesOn,
             }
-            State::Answering => self.speak(link, left, now),
         }
+        State::Ready => {
+            if budget.is_spent() {
+                return Step::Stops;
+            }
+            inside.start(runner, budget, now);
+            Step::GoesOn
+        }
+        State::Answering => speak(inside, link, budget, now),
     }
+}
 
-    // Answers requests one behind the other.
-    pub(crate) fn turn<L: Link, R: Runner<B, H>>(
-        &mut self,
-        link: &mut L,
-        runner: &mut R,
-        now: u64,
-    ) -> Next
-        requires ready { place_as self.old.at ≡ State.Ready }
-        requires room { R.runs runner.old ≤ 2 ^ 64 - 11 }
-        ensures holds { R.steady ≡ true → (T : Teller H)
-            → TellsFrom T (R.answer runner.old) self.old.local self.old.peer self.new.ending.closing self.old.calls self.new.calls
-            → HoldsBy (record { says = H.says; ends = H.ends }) T (L.seen link.old) self.old → HoldsBy (record { says = H.says; ends = H.ends }) T (L.seen link.new) self.new }
-        ensures any { (T : Teller H) → HoldsBy (record { says = H.says; ends = H.ends }) T (L.seen link.old) self.old
-            → Ran (λ U. HoldsBy (record { says = H.says; ends = H.ends }) U (L.seen link.new) self.new) T R.answer self.old.calls (L.seen link.old) (L.seen link.new) (shows self.new)
-            (R.answered runner.old) (R.answered runner.new) (R.asked runner.old) (R.asked runner.new) }
-        ensures turns { Turns now result (shows self.old) (shows self.new) (L.seen link.old) (L.seen link.new) }
-        ensures rightly { (T : Teller H) → HoldsBy (record { says = H.says; ends = H.ends }) T (L.seen link.old) self.old → TurnsRightly now (shows self.old) (shows self.new) (L.seen link.old) (L.seen link.new) }
-        ensures counts { R.runs runner.new + self.old.calls ≡ R.runs runner.old + self.new.calls }
-        ensures becomes { Becomes R.becomes runner.old runner.new }
-        ensures steady { R.steady ≡ true → (ps : Pairs) (input : List ℕ) → R.answer runner.new ps input ≡ R.answer runner.old ps input }
-    {
-        let replied = replied_at(&self.at, self.calls);
-        let mut left = Left::new();
-        self.start(runner, &mut left, now);
-        loop {
-            match self.step(link, runner, &mut left, now) {
-                Step::GoesOn => {}
-                Step::Waits | Step::Stops => {
-                    let more = replied_at(&self.at, self.calls) > replied;
-                    return turned(&self.at, &left, more);
-                }
+// Answers requests one behind the other.
+pub(crate) fn turn<L: Link, B: Body, H: Hijack + Drop, R: Runner<B, H>>(
+    inside: &mut Inside<B, H>,
+    link: &mut L,
+    runner: &mut R,
+    now: u64,
+) -> Next
+    requires ready { place_as inside.old.at ≡ State.Ready }
+    requires room { R.runs runner.old ≤ 2 ^ 64 - 11 }
+    ensures holds { R.steady ≡ true → (T : Teller H)
+        → TellsFrom T (R.answer runner.old) inside.old.local inside.old.peer inside.new.ending.closing inside.old.calls inside.new.calls
+        → HoldsBy (voice_of H.Hijack) T (L.seen link.old) inside.old → HoldsBy (voice_of H.Hijack) T (L.seen link.new) inside.new }
+    ensures any { (T : Teller H) → HoldsBy (voice_of H.Hijack) T (L.seen link.old) inside.old
+        → Ran (λ U. HoldsBy (voice_of H.Hijack) U (L.seen link.new) inside.new) T R.answer inside.old.calls (L.seen link.old) (L.seen link.new) (shows inside.new)
+        (R.answered runner.old) (R.answered runner.new) (R.asked runner.old) (R.asked runner.new) }
+    ensures turns { Turns now result (shows inside.old) (shows inside.new) (L.seen link.old) (L.seen link.new) }
+    ensures rightly { (T : Teller H) → HoldsBy (voice_of H.Hijack) T (L.seen link.old) inside.old → TurnsRightly now result (shows inside.old) (shows inside.new) (L.seen link.old) (L.seen link.new) }
+    ensures counts { R.runs runner.new + inside.old.calls ≡ R.runs runner.old + inside.new.calls }
+    ensures becomes { Becomes R.becomes runner.old runner.new }
+    ensures steady { R.steady ≡ true → (ps : Pairs) (input : List ℕ) → R.answer runner.new ps input ≡ R.answer runner.old ps input }
+{
+    let replied = replied_at(&inside.at, inside.calls);
+    let mut budget = Budget::new();
+    inside.start(runner, &mut budget, now);
+    loop {
+        match step(inside, link, runner, &mut budget, now) {
+            Step::GoesOn => {}
+            Step::Waits | Step::Stops => {
+                let more = replied_at(&inside.at, inside.calls) > replied;
+                return turned(&inside.at, &budget, more);
             }
         }
     }

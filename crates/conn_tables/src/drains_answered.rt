@@ -243,7 +243,7 @@ const PAIR: &[Row] = &[
         closing: None,
     },
     Row {
-        name: "told where half of the second is held",
+        name: "told where half of the second is unfed",
         app: App::Echoes,
         steps: &[
             Gives(ONE_AND_HALF),
@@ -262,7 +262,7 @@ const PAIR: &[Row] = &[
         closing: Some(1),
     },
     Row {
-        name: "an empty line is held, and the reply does not close",
+        name: "an empty line is unfed, and the reply does not close",
         app: App::Echoes,
         steps: &[
             Gives(ONE_AND_LINE),

@@ -143,7 +143,7 @@ const ROWS: &[Row] = &[
         closing: Some(0),
     },
     Row {
-        name: "bytes are held behind the request",
+        name: "bytes are unfed behind the request",
         app: App::Hands,
         steps: &[
             Gives(ONE_AND_WORD),

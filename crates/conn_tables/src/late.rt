@@ -168,7 +168,7 @@ const ROWS: &[Row] = &[
         closing: None,
     },
     Row {
-        name: "begun by held bytes, since the call in which the reply before it was sent whole",
+        name: "begun by unfed bytes, since the call in which the reply before it was sent whole",
         app: App::Echoes,
         steps: &[
             Takes(0),

@@ -121,7 +121,7 @@ fn tells_what_came_and_was_run(rt: HostRuntime) {
 
 // What its link sent, handed back at any moment.
 fn left(conn: MemConn) -> usize {
-    conn.leave().sent().len()
+    conn.abandon().sent().len()
 }
 
 #[test]

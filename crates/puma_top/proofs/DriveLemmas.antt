@@ -7,14 +7,15 @@ use Rattle.reply_framing.specs.declared.types.After.{After}
 use Rattle.reply_framing.specs.declared.types.After.TheVariants.{Keep, Close, Hijack}
 use Rattle.talk_core.specs.declared.ended.Life.{Life}
 use Rattle.talk_core.specs.Teller.{Stack, Stacks, last_phase}
-use Rattle.conn_core.specs.Calls.{RestsBehind, Feeds, Turns, Flushes}
-use Rattle.conn_core.specs.Keeps.{reaching}
-use Rattle.conn_core.specs.Opened.{untold}
-use Rattle.conn_core.specs.Shown.{Shown, Moved}
-use Rattle.conn_core.specs.declared.state.Next.{Next}
-use Rattle.conn_core.specs.declared.state.Next.TheVariants as next
-use Rattle.conn_core.specs.declared.state.State.{State}
-use Rattle.conn_core.specs.declared.state.State.TheVariants as state
+use Rattle.conn_steps.specs.Ends.{RestsBehind}
+use Rattle.conn_core.specs.Calls.{Feeds, Turns, Flushes}
+use Rattle.conn_steps.specs.Keeps.{reaching}
+use Rattle.conn_steps.specs.Opened.{untold}
+use Rattle.conn_steps.specs.Shown.{Shown, Moved}
+use Rattle.conn_steps.specs.declared.state.Next.{Next}
+use Rattle.conn_steps.specs.declared.state.Next.TheVariants as next
+use Rattle.conn_steps.specs.declared.state.State.{State}
+use Rattle.conn_steps.specs.declared.state.State.TheVariants as state
 use Rattle.conn_core.proofs.CallerLemmas.{moved_none, moved_then, taken_by}
 use Rattle.puma_top.specs.Drive.{EndsSo, Drives, left_of, left_to, still_left, owing, still_owing, saying, still_saying, IsSaid}
 use Rattle.puma_top.specs.Once.{most_taken}

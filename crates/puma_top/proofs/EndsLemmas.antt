@@ -7,16 +7,17 @@ use Rattle.rack_outside.specs.declared.link.LinkRead.TheVariants as read
 use Rattle.rack_outside.proofs.CallerLemmas.{rose_within}
 use Rattle.talk_core.specs.declared.ended.Why.{Why}
 use Rattle.talk_core.specs.declared.ended.Why.TheVariants as why
-use Rattle.conn_core.specs.Calls.{TurnEnds, FeedEnds, IsOfFeed, Feeds}
-use Rattle.conn_core.specs.declared.moments.Ending.{Ending}
-use Rattle.conn_core.specs.declared.moments.Late.{Late}
-use Rattle.conn_core.specs.Keeps.{Drains, DrainsOnce}
-use Rattle.conn_core.specs.Moves.{FedTo, ToldTo, BehindRead}
-use Rattle.conn_core.specs.Opened.{untold}
-use Rattle.conn_core.specs.Shown.{Shown}
-use Rattle.conn_core.specs.declared.state.Next.{Next}
-use Rattle.conn_core.specs.declared.state.State.{State}
-use Rattle.conn_core.specs.declared.state.State.TheVariants as state
+use Rattle.conn_steps.specs.Ends.{TurnEnds, FeedEnds, IsOfFeed}
+use Rattle.conn_core.specs.Calls.{Feeds}
+use Rattle.conn_steps.specs.declared.moments.Ending.{Ending}
+use Rattle.conn_steps.specs.declared.moments.Late.{Late}
+use Rattle.conn_steps.specs.Keeps.{Drains, DrainsOnce}
+use Rattle.conn_steps.specs.Moves.{FedTo, ToldTo, BehindRead}
+use Rattle.conn_steps.specs.Opened.{untold}
+use Rattle.conn_steps.specs.Shown.{Shown}
+use Rattle.conn_steps.specs.declared.state.Next.{Next}
+use Rattle.conn_steps.specs.declared.state.State.{State}
+use Rattle.conn_steps.specs.declared.state.State.TheVariants as state
 use Rattle.puma_top.specs.Drive.{EndsSo}
 use Rattle.puma_top.specs.OnceSteps.{IsOfOnce}
 
@@ -68,10 +69,10 @@ told_of o n is d = omega (arith, ap (λ (x : Ending). x.told) is, d.1)
 pub still_untold : (o n : Shown) → o.ending ≡ untold → Drains o n → n.ending ≡ o.ending
 still_untold o n is h =
     let closing : n.ending.closing ≡ o.ending.closing = elim h.closing [ inl same ↦ same | inr once ↦ absurd (told_of o n is once) ] in
-    ap (λ (x : ℕ). record { told = x; closing = n.ending.closing; late = n.ending.late; left = n.ending.left }) h.told
-    ∙ ap (λ (x : Option ℕ). record { told = o.ending.told; closing = x; late = n.ending.late; left = n.ending.left }) closing
-    ∙ ap (λ (x : Option Late). record { told = o.ending.told; closing = o.ending.closing; late = x; left = n.ending.left }) h.late
-    ∙ ap (λ (x : Bool). record { told = o.ending.told; closing = o.ending.closing; late = o.ending.late; left = x }) h.left
+    ap (λ (x : ℕ). record { told = x; closing = n.ending.closing; late = n.ending.late; dismissed = n.ending.dismissed }) h.told
+    ∙ ap (λ (x : Option ℕ). record { told = o.ending.told; closing = x; late = n.ending.late; dismissed = n.ending.dismissed }) closing
+    ∙ ap (λ (x : Option Late). record { told = o.ending.told; closing = o.ending.closing; late = x; dismissed = n.ending.dismissed }) h.late
+    ∙ ap (λ (x : Bool). record { told = o.ending.told; closing = o.ending.closing; late = o.ending.late; dismissed = x }) h.dismissed
 
 -- behind bytes no read has failed
 fed_sound : (b : State) (w : Option Why) → FedTo b w → w ≢ Some why.ReadFailed

@@ -9,12 +9,12 @@ use Rattle.reply_framing.specs.declared.types.After.{After}
 use Rattle.reply_framing.specs.declared.types.After.TheVariants.{Close}
 use Rattle.talk_core.specs.declared.ended.Why.{Why}
 use Rattle.conn_core.specs.Calls.{Flushes, Leaves}
-use Rattle.conn_core.specs.Keeps.{reaching}
-use Rattle.conn_core.specs.Moves.{ToldTo, BehindRead, ReadsOnce, StillOwes, SentTo, BehindWrite, Move, Run, Refusal, Want, Read, Write, Point, MakesMove, Goes, IsOwing, flush_at}
-use Rattle.conn_core.specs.Shown.{Shown}
-use Rattle.conn_core.specs.declared.state.Next.{Next}
-use Rattle.conn_core.specs.declared.state.State.{State}
-use Rattle.conn_core.specs.declared.state.State.TheVariants as state
+use Rattle.conn_steps.specs.Keeps.{reaching}
+use Rattle.conn_steps.specs.Moves.{ToldTo, BehindRead, ReadsOnce, StillOwes, SentTo, BehindWrite, Move, Run, Refusal, Want, Read, Write, Point, MakesMove, Goes, IsOwing, flush_at}
+use Rattle.conn_steps.specs.Shown.{Shown}
+use Rattle.conn_steps.specs.declared.state.Next.{Next}
+use Rattle.conn_steps.specs.declared.state.State.{State}
+use Rattle.conn_steps.specs.declared.state.State.TheVariants as state
 use Rattle.puma_top.specs.Drive.{SaysLast, IsHeard, IsSaid}
 
 -- the peer's end ends the reader of requests

@@ -11,7 +11,7 @@ use Rattle.talk_core.specs.Ended.{Shows}
 use Rattle.talk_core.specs.Tail.{tail_of}
 use Rattle.talk_core.specs.Teller.{Teller}
 use Rattle.talk_core.proofs.CallerLemmas.{begins_answer, stands_more}
-use Rattle.conn_core.specs.Shown.{Shown, Moved}
+use Rattle.conn_steps.specs.Shown.{Shown, Moved}
 use Rattle.conn_core.proofs.CallerLemmas.{taken_by, Part}
 use Rattle.puma_top.specs.Once.{Site, once_peer, once_voice, teller_of, AnsweredInPart, most_taken, Told, ServedLong}
 use Rattle.puma_top.specs.Seen.{SourceSeen, SinkSeen}

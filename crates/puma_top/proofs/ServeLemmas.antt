@@ -16,10 +16,10 @@ use Rattle.talk_core.specs.Tail.{goes_on}
 use Rattle.talk_core.specs.Talk.{Stop, wanting, refused, closed, hijacked}
 use Rattle.talk_core.specs.Teller.{Teller, tell}
 use Rattle.talk_core.proofs.CallerLemmas.{begins_answer, begins_less, undrained, answer_whole, answer_closed, closed_on, answer_handed, answer_stopped, stopped_on, hijack_stops, hijack_untimed}
-use Rattle.conn_core.specs.declared.moments.Ending.{Ending}
-use Rattle.conn_core.specs.Plain.{EndsPlainly, LacksPlainly}
-use Rattle.conn_core.specs.Opened.{opened, untold}
-use Rattle.conn_core.specs.Shown.{Shown}
+use Rattle.conn_steps.specs.declared.moments.Ending.{Ending}
+use Rattle.conn_steps.specs.Plain.{EndsPlainly, LacksPlainly}
+use Rattle.conn_steps.specs.Opened.{opened, untold}
+use Rattle.conn_steps.specs.Shown.{Shown}
 use Rattle.conn_core.proofs.CallerLemmas.{EndsAt, PartAt, Part, told_to}
 use Rattle.puma_top.specs.Once.{Site, once_peer, once_local, once_voice, stacks_of, once_lives, teller_of, AnsweredAll, AnsweredSoFar, ClosedOn, most_taken, ServedAll, ServedGiven, ServedPart, ServedLess, ServedLong}
 use Rattle.puma_top.specs.Drive.{EndsSo, Drives}

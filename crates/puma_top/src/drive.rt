@@ -1,10 +1,11 @@
 // A connection that never has to wait, driven to its end.
 ghost use Rattle.std.specs.Prelude.{◌≡◌, ◌≢◌, ◌↔◌, [], ℕ, List, true, IsTrue};
 ghost use Rattle.rack_types.specs.Env.{Pairs};
+ghost use Rattle.talk_core.specs.Tail.{voice_of};
 ghost use Rattle.talk_core.specs.Teller.{Stacks, last_phase};
-ghost use Rattle.conn_core.specs.Calls.{RestsBehind};
+ghost use Rattle.conn_steps.specs.Ends.{RestsBehind};
 ghost use Rattle.conn_core.specs.Holds.{Holds};
-ghost use Rattle.conn_core.specs.Opened.{untold};
+ghost use Rattle.conn_steps.specs.Opened.{untold};
 ghost use Rattle.conn_core.specs.Shown.{shown, link_of};
 ghost use Rattle.puma_top.specs.Drive.{Drives, IsDriven, IsSaid};
 
@@ -29,7 +30,7 @@ pub(crate) fn drive<L: Link, B: Body, H: Hijack + Drop, R: Runner<B, H>>(
     ensures done { IsDriven (shown conn.new) }
     ensures holds { (S : Stacks H) → R.steady ≡ true
         → ((ps : Pairs) (input : List ℕ) → S (last_phase (shown conn.old).lives) ps input ≡ R.answer runner.old ps input)
-        → Holds L.seen (record { says = H.says; ends = H.ends }) S conn.old → Holds L.seen (record { says = H.says; ends = H.ends }) S conn.new }
+        → Holds L.seen (voice_of H.Hijack) S conn.old → Holds L.seen (voice_of H.Hijack) S conn.new }
 {
     loop {
         if conn.taken() >= MOST {
@@ -90,7 +91,7 @@ fn say_reply<L: Link, B: Body, H: Hijack + Drop>(conn: &mut Conn<L, B, H>)
     ensures calls { (shown conn.new).calls ≡ (shown conn.old).calls }
     ensures rests { RestsBehind (shown conn.new).state (shown conn.old).replied (shown conn.new).replied }
     ensures said { (shown conn.new).state ≢ State.Answering }
-    ensures holds { (S : Stacks H) → Holds L.seen (record { says = H.says; ends = H.ends }) S conn.old → Holds L.seen (record { says = H.says; ends = H.ends }) S conn.new }
+    ensures holds { (S : Stacks H) → Holds L.seen (voice_of H.Hijack) S conn.old → Holds L.seen (voice_of H.Hijack) S conn.new }
 {
     while is_answering(conn) {
         let _next = conn.flush(0);
@@ -106,7 +107,7 @@ fn say_tail<L: Link, B: Body, H: Hijack + Drop>(conn: &mut Conn<L, B, H>)
     ensures drives { Drives (shown conn.old) (shown conn.new) (L.seen (link_of conn.old)) (L.seen (link_of conn.new)) }
     ensures calls { (shown conn.new).calls ≡ (shown conn.old).calls }
     ensures said { IsSaid (shown conn.old) (shown conn.new) }
-    ensures holds { (S : Stacks H) → Holds L.seen (record { says = H.says; ends = H.ends }) S conn.old → Holds L.seen (record { says = H.says; ends = H.ends }) S conn.new }
+    ensures holds { (S : Stacks H) → Holds L.seen (voice_of H.Hijack) S conn.old → Holds L.seen (voice_of H.Hijack) S conn.new }
 {
     while conn.wants_write() {
         let _next = conn.flush(0);

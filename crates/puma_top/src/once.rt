@@ -109,7 +109,7 @@ fn talk<L: Link + Drop>(
         link
     } else {
         *status = Status::TooLong;
-        conn.leave()
+        conn.abandon()
     }
 }
 

@@ -1,4 +1,4 @@
-use Rattle.conn_core.proofs.UnreadLemmas.{last_is}
+use Rattle.conn_steps.proofs.CallerLemmas.{last_is}
 use Rattle.conn_core.proofs.owner.last_phase.Goals as goal
 
 pub returns-else-count-eq0 : goal.returns-else-count-eq0

@@ -1,6 +1,6 @@
 use Rattle.std.proofs.Common.{◌≡◌, ◌<◌, ◌≤◌, [], None, refl, sym, ◌∙◌, arith, inr}
-use Rattle.conn_core.specs.declared.state.State.TheVariants as state
-use Rattle.conn_core.specs.Keeps.{reaching}
+use Rattle.conn_steps.specs.declared.state.State.TheVariants as state
+use Rattle.conn_steps.specs.Keeps.{reaching}
 use Rattle.conn_core.specs.Shown.{shown, link_of}
 use Rattle.conn_core.proofs.CallerLemmas.{unended, few_calls}
 use Rattle.puma_top.specs.Once.{most_taken}

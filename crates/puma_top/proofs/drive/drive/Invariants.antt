@@ -1,5 +1,6 @@
 use Rattle.std.proofs.Common.{◌≡◌, ℕ, List, true}
 use Rattle.rack_types.specs.Env.{Pairs}
+use Rattle.talk_core.specs.Tail.{voice_of}
 use Rattle.talk_core.specs.Teller.{Stacks, last_phase}
 use Rattle.conn_core.specs.Holds.{Holds}
 use Rattle.conn_core.specs.Shown.{shown, link_of}
@@ -13,8 +14,8 @@ invariant-loop-conn g l = record {
   steady : g.R.Runner.steady ≡ true → (ps : Pairs) (input : List ℕ) → g.R.Runner.answer l.runner ps input ≡ g.R.Runner.answer l.fn.runner ps input;
   holds : (S : Stacks g.row.H.Denot) → g.R.Runner.steady ≡ true
       → ((ps : Pairs) (input : List ℕ) → S (last_phase (shown l.fn.conn).lives) ps input ≡ g.R.Runner.answer l.fn.runner ps input)
-      → Holds g.L.Link.seen (record { says = g.H.Hijack.says; ends = g.H.Hijack.ends }) S l.fn.conn
-      → Holds g.L.Link.seen (record { says = g.H.Hijack.says; ends = g.H.Hijack.ends }) S l.conn;
+      → Holds g.L.Link.seen (voice_of g.H.Hijack) S l.fn.conn
+      → Holds g.L.Link.seen (voice_of g.H.Hijack) S l.conn;
 }
 
 abbrev pub decreases-loop-conn : goal.decreases-loop-conn

@@ -1,8 +1,9 @@
 use Rattle.std.proofs.Common.{◌≡◌, refl, subst, ◌∙◌, inl}
-use Rattle.conn_core.specs.Calls.{RestsBehind, Leaves}
-use Rattle.conn_core.specs.declared.state.State.{State}
-use Rattle.conn_core.specs.declared.state.State.TheVariants as state
-use Rattle.conn_core.specs.Keeps.{reaching}
+use Rattle.conn_steps.specs.Ends.{RestsBehind}
+use Rattle.conn_core.specs.Calls.{Leaves}
+use Rattle.conn_steps.specs.declared.state.State.{State}
+use Rattle.conn_steps.specs.declared.state.State.TheVariants as state
+use Rattle.conn_steps.specs.Keeps.{reaching}
 use Rattle.conn_core.specs.Shown.{shown, link_of}
 use Rattle.conn_core.proofs.CallerLemmas.{unended}
 use Rattle.puma_top.proofs.DriveLemmas.{driven_none, flush_driven, flush_less, rests_start, rests_then}

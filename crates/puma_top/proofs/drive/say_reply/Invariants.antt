@@ -1,6 +1,7 @@
 use Rattle.std.proofs.Common.{◌≡◌}
+use Rattle.talk_core.specs.Tail.{voice_of}
 use Rattle.talk_core.specs.Teller.{Stacks}
-use Rattle.conn_core.specs.Calls.{RestsBehind}
+use Rattle.conn_steps.specs.Ends.{RestsBehind}
 use Rattle.conn_core.specs.Holds.{Holds}
 use Rattle.conn_core.specs.Shown.{shown, link_of}
 use Rattle.puma_top.specs.Drive.{Drives, still_owing}
@@ -11,8 +12,8 @@ invariant-loop-conn g l = record {
   drives : Drives (shown l.fn.conn) (shown l.conn) (g.L.Link.seen (link_of l.fn.conn)) (g.L.Link.seen (link_of l.conn));
   calls : (shown l.conn).calls ≡ (shown l.fn.conn).calls;
   rests : RestsBehind (shown l.conn).state (shown l.fn.conn).replied (shown l.conn).replied;
-  holds : (S : Stacks g.row.H.Denot) → Holds g.L.Link.seen (record { says = g.H.Hijack.says; ends = g.H.Hijack.ends }) S l.fn.conn
-      → Holds g.L.Link.seen (record { says = g.H.Hijack.says; ends = g.H.Hijack.ends }) S l.conn;
+  holds : (S : Stacks g.row.H.Denot) → Holds g.L.Link.seen (voice_of g.H.Hijack) S l.fn.conn
+      → Holds g.L.Link.seen (voice_of g.H.Hijack) S l.conn;
 }
 
 abbrev pub decreases-loop-conn : goal.decreases-loop-conn

@@ -1,6 +1,6 @@
 use Rattle.std.proofs.Common.{◌≡◌, [], refl, ◌∙◌}
-use Rattle.conn_core.specs.declared.state.State.TheVariants as state
-use Rattle.conn_core.specs.Keeps.{reaching}
+use Rattle.conn_steps.specs.declared.state.State.TheVariants as state
+use Rattle.conn_steps.specs.Keeps.{reaching}
 use Rattle.conn_core.specs.Shown.{shown, link_of}
 use Rattle.conn_core.proofs.CallerLemmas.{unended}
 use Rattle.puma_top.proofs.DriveLemmas.{driven_none, flush_driven, tail_falls}

@@ -1,7 +1,8 @@
 use Rattle.std.proofs.Common.{◌≡◌, ◌≢◌, ℕ, ◌≤◌, List, codes, refl, ap, inl, inr}
-use Rattle.conn_core.specs.Opened.{opened}
-use Rattle.conn_core.specs.Shown.{Shown, shown, link_of}
-use Rattle.conn_core.specs.declared.state.State.TheVariants as state
+use Rattle.conn_steps.specs.Opened.{opened}
+use Rattle.conn_steps.specs.Shown.{Shown}
+use Rattle.conn_core.specs.Shown.{shown, link_of}
+use Rattle.conn_steps.specs.declared.state.State.TheVariants as state
 use Rattle.conn_core.proofs.CallerLemmas.{ends_at, part_at}
 use Rattle.puma_top.specs.Once.{once_peer, once_local, once_voice, stacks_of, most_taken}
 use Rattle.puma_top.specs.OnceSteps.{site_of}
@@ -36,5 +37,5 @@ returns-clause-serves g c =
     let holds = c.drive.ensures.holds (stacks_of (site_of c.args.runner c.args.hijack)) refl (λ ps input. refl) (c.in-Ok.ensures.holds (stacks_of (site_of c.args.runner c.args.hijack))) in
     let live : (shown m).state ≢ state.Over = λ e. let is = c.is_over.ensures.1 e in cc (is, c.if-is_over.false) in
     let long : most_taken ≤ (shown m).taken = elim c.drive.ensures.done [ inl x ↦ absurd (live x) | inr x ↦ x ] in
-    talk_long g.L.Link.seen (site_of c.args.runner c.args.hijack) (shown k) (shown m) c.args.link (link_of k) (link_of m) c.leave.result start c.drive.ensures.drives begins.2
-    c.leave.ensures c.requires.fresh.given_is long (part_at g.L.Link.seen once_voice (stacks_of (site_of c.args.runner c.args.hijack)) m live holds)
+    talk_long g.L.Link.seen (site_of c.args.runner c.args.hijack) (shown k) (shown m) c.args.link (link_of k) (link_of m) c.abandon.result start c.drive.ensures.drives begins.2
+    c.abandon.ensures c.requires.fresh.given_is long (part_at g.L.Link.seen once_voice (stacks_of (site_of c.args.runner c.args.hijack)) m live holds)

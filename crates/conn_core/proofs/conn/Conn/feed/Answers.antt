@@ -1,7 +1,7 @@
 use Rattle.std.proofs.Common.{sym, subst}
-use Rattle.conn_core.specs.declared.inside.Inside.{Inside}
-use Rattle.conn_core.specs.Place.{MayRead}
-use Rattle.conn_core.proofs.MoveLemmas.{may_read}
+use Rattle.conn_steps.specs.declared.inside.Inside.{Inside}
+use Rattle.conn_steps.specs.At.{MayRead}
+use Rattle.conn_steps.proofs.CallerLemmas.{may_read}
 use Rattle.conn_core.proofs.conn.Conn.feed.Goals as goal
 
 pub feed-requires : goal.feed-requires

@@ -1,7 +1,7 @@
 use Rattle.std.proofs.Common.{sym, subst}
-use Rattle.conn_core.specs.declared.inside.Inside.{Inside}
-use Rattle.conn_core.specs.Place.{IsSaying}
-use Rattle.conn_core.proofs.MoveLemmas.{owing_saying}
+use Rattle.conn_steps.specs.declared.inside.Inside.{Inside}
+use Rattle.conn_steps.specs.At.{IsSaying}
+use Rattle.conn_steps.proofs.CallerLemmas.{owing_saying}
 use Rattle.conn_core.proofs.conn.Conn.flush.Goals as goal
 
 pub flush-requires : goal.flush-requires

@@ -1,4 +1,4 @@
-use Rattle.conn_core.proofs.ConnLemmas.{fresh_stands, fresh_lives}
+use Rattle.conn_steps.proofs.CallerLemmas.{fresh_stands, fresh_lives}
 use Rattle.conn_core.proofs.conn.Conn.open.Goals as goal
 
 pub returns-in-Ok-clause-holds : goal.returns-in-Ok-clause-holds

@@ -1,4 +1,4 @@
-use Rattle.conn_core.proofs.PlacedLemmas.{placed_holds}
+use Rattle.conn_steps.proofs.CallerLemmas.{placed_holds}
 use Rattle.conn_core.proofs.conn.Conn.place.Goals as goal
 
 pub returns-clause-holds : goal.returns-clause-holds

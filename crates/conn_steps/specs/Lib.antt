@@ -1,0 +1,16 @@
+pub mod At
+pub mod Rests
+pub mod Steps
+pub mod Plain
+pub mod Holds
+pub mod Shown
+pub mod Moves
+pub mod Moments
+pub mod Keeps
+pub mod Inner
+pub mod Opened
+pub mod Ran
+pub mod RunOnce
+pub mod Owner
+pub mod Answered
+pub mod Ends
