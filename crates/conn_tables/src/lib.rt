@@ -43,6 +43,8 @@ mod stalled;
 #[cfg(test)]
 mod steps;
 #[cfg(test)]
+mod tells;
+#[cfg(test)]
 mod texts;
 #[cfg(test)]
 mod watches;
