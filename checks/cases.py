@@ -12,6 +12,7 @@ import tempfile
 
 import bodies
 import connections
+import control
 import documents
 import dist
 import endpoints
@@ -46,6 +47,7 @@ GROUPS = (
     connections.check_kept, connections.check_pipelined, connections.check_ends, connections.check_waiting_writers,
     endpoints.check_rows, endpoints.check_endpoints, endpoints.check_broken, endpoints.check_statuses,
     endpoints.check_long, endpoints.check_environments,
+    control.check_orders, control.check_no_answers, control.check_nobody,
     hijacks.check_rows, hijacks.check_pipelined, hijacks.check_long, hijacks.check_reads, hijacks.check_failures,
 )
 

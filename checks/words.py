@@ -128,7 +128,7 @@ def check_options(checks):
 def check_help(checks):
     """What the program says of itself: standard output, status 0, and nothing on standard error."""
     checks.begin("help")
-    for asks, parts in [(ASKS_HELP, [b"puma once", b"puma check", b"--no-hijack", b"STACK", b"docs/"]),
+    for asks, parts in [(ASKS_HELP, [b"puma once", b"puma check", b"puma control", b"--no-hijack", b"--token", b"STACK", b"docs/"]),
                         (ASKS_VERSION, [b"puma"])]:
         first = run([asks[0]]) or NOTHING
         checks.counts(f"{asks[0]} ends in a line", (True, True), (first[1].endswith(b"\n"), first[1].isascii()))
@@ -149,6 +149,7 @@ def check_help(checks):
         os.close(writer)
     text = (run(["--help"]) or NOTHING)[1].decode("ascii", "replace")
     checks.counts("each exit status is told", [], [n for n in "01234679" if f"  {n}  " not in text])
+    checks.counts("those of orders too", [], [n for n in ("12", "13", "14") if f" {n} " not in text])
     checks.counts("how wide it is", True, 0 < max(map(len, text.split("\n"))) < 80)
     version = (run(["--version"]) or NOTHING)[1]
     checks.counts("a version is one line", (1, True), (version.count(b"\n"), version.startswith(b"puma ")))

@@ -30,7 +30,7 @@ fn asked_by(word: &str) -> Option<Asked> {
 }
 
 fn is_command(word: &str) -> bool {
-    word == "once" || word == "check"
+    word == "once" || word == "check" || word == "control"
 }
 
 /// Writes what was asked for, all of it.
@@ -50,6 +50,8 @@ It answers requests by a stack of middleware and endpoints from a stack file.\n\
 Usage:\n\
 \x20 puma once [--no-hijack] STACK    serve one connection\n\
 \x20 puma check STACK                 print a stack file in its written form\n\
+\x20 puma control ADDRESS --token T ORDER\n\
+\x20                                  give an order to a running server\n\
 \x20 puma --help                      print this text; also -h, help\n\
 \x20 puma --version                   print the version; also -V\n\
 \n\
@@ -67,9 +69,17 @@ puma check STACK\n\
 \x20   STACK         the name of a stack file\n\
 \x20 Example:  bin/puma check examples/everything.stack\n\
 \n\
-Flags may stand before or behind STACK, and what follows -- is no flag. --help\n\
-and its kin answer behind once and check too; a stack file that is called help\n\
-is named ./help.\n\
+puma control ADDRESS --token T ORDER\n\
+\x20 Dials a control server once, asks it for ORDER, and prints the body of its\n\
+\x20 reply, which is JSON, and a line feed. It waits for it half a minute.\n\
+\x20   ADDRESS       a name or an IP address, a colon and a port\n\
+\x20   --token T     the server's token, 1 to 64 letters and digits\n\
+\x20   ORDER         stats, phased-restart, stop or halt\n\
+\x20 Example:  bin/puma control 127.0.0.1:9293 --token secret stats\n\
+\n\
+Flags may stand before or behind a name, and what follows -- is no flag. --help\n\
+and its kin answer behind once, check and control too; a stack file that is\n\
+called help is named ./help.\n\
 \n\
 A stack file, of at most 65,536 bytes:\n\
 \x20 # A comment. The first use is the outermost.\n\
@@ -97,6 +107,10 @@ Exit statuses, each but 0 with one line on standard error:\n\
 \x20 2  the words are no command     7  a write to standard output failed\n\
 \x20 3  the stack file is absent,    9  input too long: 2^40 bytes, and the\n\
 \x20    too long, or can't be read      connection isn't over\n\
+\x20 12 the control server wasn't     14 the control server's reply has\n\
+\x20    reached, or its link failed      another status than 200\n\
+\x20 13 the control server gave no\n\
+\x20    reply\n\
 \n\
 Documents, in docs/ of the repository: STACKS.md has the stack file line by\n\
 line and each rule; DEFINITIONS.md has requests, refusals and replies.\n";
@@ -117,6 +131,7 @@ mod tests {
             ("once --help", Some(Asked::Help)),
             ("check -V", Some(Asked::Version)),
             ("check help", Some(Asked::Help)),
+            ("control --help", Some(Asked::Help)),
             ("serve --help", None),
             ("--help once", None),
             ("once stack --help", None),

@@ -3,6 +3,7 @@
 #![tactic(auto)]
 
 mod help;
+mod net_dial;
 mod read_source;
 mod real_files;
 #[cfg(test)]
@@ -11,7 +12,8 @@ mod words;
 mod write_sink;
 
 use help::{answer, asked_for};
-use puma_top::{FileWhy, Status, run_quiet};
+use net_dial::NetDial;
+use puma_top::{FileWhy, Status, run_control, run_quiet};
 use read_source::ReadSource;
 use real_files::RealFiles;
 use std::io;
@@ -38,10 +40,23 @@ fn run(rt: &HostRuntime, words: &[String]) -> Status {
             Err(_) => Status::SinkFault,
         };
     }
+    if is_order(words) {
+        let mut dial = NetDial::new(rt);
+        let mut sink = WriteSink::new(rt.stdout());
+        return run_control(rt.alloc(), words, &mut dial, &mut sink);
+    }
     let mut files = RealFiles::new(rt);
     let mut source = ReadSource::new(rt.stdin());
     let mut sink = WriteSink::new(rt.stdout());
     run_quiet(rt.alloc(), words, &mut files, &mut source, &mut sink)
+}
+
+/// The words begin as an order to a running server does, which is not run here.
+fn is_order(words: &[String]) -> bool {
+    match words.first() {
+        Some(word) => word.as_str() == "control",
+        None => false,
+    }
 }
 
 /// One line on standard error for each answer but Done.
@@ -57,5 +72,8 @@ fn report(runtime: &impl Eprint, status: &Status) -> io::Result<()> {
         Status::SourceFault => runtime.eprintln("puma: read failed"),
         Status::SinkFault => runtime.eprintln("puma: write failed"),
         Status::TooLong => runtime.eprintln("puma: input too long"),
+        Status::Dial => runtime.eprintln("puma: dial failed"),
+        Status::NoAnswer => runtime.eprintln("puma: no answer"),
+        Status::Denied { status } => eprintln!(runtime; "puma: denied {status}"),
     }
 }

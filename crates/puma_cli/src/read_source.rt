@@ -44,7 +44,7 @@ impl<R: Read> Source for ReadSource<R> {
 }
 
 /// One read. Where the system interrupted it nothing was read, and it is tried again.
-fn read_once<R: Read>(reader: &mut R, room: &mut [u8]) -> io::Result<usize>
+pub(crate) fn read_once<R: Read>(reader: &mut R, room: &mut [u8]) -> io::Result<usize>
     ensures { ReadsAtMost result room.new }
 {
     for _ in 0..u64::MAX {

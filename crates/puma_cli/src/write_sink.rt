@@ -42,7 +42,7 @@ impl<W: Write> Sink for WriteSink<W> {
 }
 
 /// One write. Where the system interrupted it nothing was taken, and it is tried again.
-fn write_once<W: Write>(writer: &mut W, piece: &[u8]) -> io::Result<usize>
+pub(crate) fn write_once<W: Write>(writer: &mut W, piece: &[u8]) -> io::Result<usize>
     ensures { WritesAtMost result piece.now }
 {
     for _ in 0..u64::MAX {

@@ -1,3 +1,4 @@
+pub mod ControlLemmas
 pub mod LawLemmas
 pub mod EndsLemmas
 pub mod HeardLemmas

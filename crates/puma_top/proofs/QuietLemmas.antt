@@ -36,6 +36,9 @@ once_served (status.Stack line rule) hijack name stack old new good h = absurd h
 once_served status.SourceFault hijack name stack old new good h = record { stack = stack; good = good; rose = h.0; served = h.1 }
 once_served status.SinkFault hijack name stack old new good h = record { stack = stack; good = good; rose = h.0; served = h.1 }
 once_served status.TooLong hijack name stack old new good h = record { stack = stack; good = good; served = h }
+once_served status.Dial hijack name stack old new good h = absurd h
+once_served status.NoAnswer hijack name stack old new good h = absurd h
+once_served (status.Denied denied) hijack name stack old new good h = absurd h
 
 -- one that was not begun
 pub once_unbegun : (s : Status) (hijack : Bool) (name : List ℕ) (old new : Seen) → OpensSteps (Err s) name old.files new.files
@@ -48,6 +51,9 @@ once_unbegun (status.Stack line rule) hijack name old new h same = h
 once_unbegun status.SourceFault hijack name old new h same = absurd h
 once_unbegun status.SinkFault hijack name old new h same = absurd h
 once_unbegun status.TooLong hijack name old new h same = absurd h
+once_unbegun status.Dial hijack name old new h same = absurd h
+once_unbegun status.NoAnswer hijack name old new h same = absurd h
+once_unbegun (status.Denied denied) hijack name old new h same = absurd h
 
 -- steps that were read and printed
 pub check_printed : (s : Status) (name : List ℕ) (steps : Plan App) (old new : FilesSeen) (sink then : SinkSeen) → HasRead name steps old new
@@ -67,6 +73,9 @@ check_printed status.SinkFault name steps old new sink then h p = (
   },
 )
 check_printed status.TooLong name steps old new sink then h p = absurd p
+check_printed status.Dial name steps old new sink then h p = absurd p
+check_printed status.NoAnswer name steps old new sink then h p = absurd p
+check_printed (status.Denied denied) name steps old new sink then h p = absurd p
 
 -- and those that weren't read
 pub check_unread : (s : Status) (name : List ℕ) (old new : FilesSeen) (sink then : SinkSeen) → OpensSteps (Err s) name old new
@@ -79,6 +88,9 @@ check_unread (status.Stack line rule) name old new sink then h same = h
 check_unread status.SourceFault name old new sink then h same = absurd h
 check_unread status.SinkFault name old new sink then h same = absurd h
 check_unread status.TooLong name old new sink then h same = absurd h
+check_unread status.Dial name old new sink then h same = absurd h
+check_unread status.NoAnswer name old new sink then h same = absurd h
+check_unread (status.Denied denied) name old new sink then h same = absurd h
 
 -- the last read that was noted, told twice
 one_note : (noted notes : Option FileReads) (before : FileReads) (x y : List ℕ × FileRead) → noted ≡ Some before → notes ≡ appended noted (x ∷ [])
@@ -152,6 +164,9 @@ once_bad status.SinkFault hijack file old new did name text line rule noted bad 
     absurd (no_stack old.files new.files name text line rule noted bad file did.stack did.good)
 once_bad status.TooLong hijack file old new did name text line rule noted bad =
     absurd (no_stack old.files new.files name text line rule noted bad file did.stack did.good)
+once_bad status.Dial hijack file old new did name text line rule noted bad = absurd did
+once_bad status.NoAnswer hijack file old new did name text line rule noted bad = absurd did
+once_bad (status.Denied denied) hijack file old new did name text line rule noted bad = absurd did
 
 check_bad : (s : Status) (file : List ℕ) (old new : FilesSeen) (sink then : SinkSeen) → CheckDid s file old new sink then → (name text : List ℕ) (line rule : ℕ)
     → Noted old new name text → IsBadAt text line rule → UnlessNoMemory s (s ≡ status.Stack line rule)
@@ -165,6 +180,9 @@ check_bad status.SourceFault file old new sink then did name text line rule note
 check_bad status.SinkFault file old new sink then did name text line rule noted bad =
     absurd (no_steps old new name text line rule noted bad file did.1.part.steps did.1.part.read)
 check_bad status.TooLong file old new sink then did name text line rule noted bad = absurd did
+check_bad status.Dial file old new sink then did name text line rule noted bad = absurd did
+check_bad status.NoAnswer file old new sink then did name text line rule noted bad = absurd did
+check_bad (status.Denied denied) file old new sink then did name text line rule noted bad = absurd did
 
 bad_stack : (s : Status) (command : Option Command) (old new : Seen) → Did s command old new → (command ≡ None → new.files.texts ≡ old.files.texts)
     → (name text : List ℕ) (line rule : ℕ) → Noted old.files new.files name text → IsBadAt text line rule → UnlessNoMemory s (s ≡ status.Stack line rule)
@@ -216,6 +234,9 @@ once_complete (status.Stack line rule) hijack file old new did ready calm = absu
 once_complete status.SourceFault hijack file old new did ready calm = absurd (calm.source did.rose)
 once_complete status.SinkFault hijack file old new did ready calm = absurd (calm.sink did.rose)
 once_complete status.TooLong hijack file old new did ready calm = inr refl
+once_complete status.Dial hijack file old new did ready calm = absurd did
+once_complete status.NoAnswer hijack file old new did ready calm = absurd did
+once_complete (status.Denied denied) hijack file old new did ready calm = absurd did
 
 check_complete : (s : Status) (file : List ℕ) (old new : Seen) → CheckDid s file old.files new.files old.sink new.sink → IsReady file old.files → NoFault old new
     → UnlessNoMemory s ((s ≡ status.Done) ⊎ (s ≡ status.TooLong))
@@ -227,6 +248,9 @@ check_complete (status.Stack line rule) file old new did ready calm = absurd (is
 check_complete status.SourceFault file old new did ready calm = absurd did
 check_complete status.SinkFault file old new did ready calm = absurd (calm.sink did.0)
 check_complete status.TooLong file old new did ready calm = inr refl
+check_complete status.Dial file old new did ready calm = absurd did
+check_complete status.NoAnswer file old new did ready calm = absurd did
+check_complete (status.Denied denied) file old new did ready calm = absurd did
 
 complete : (s : Status) (command : Option Command) (old new : Seen) → Did s command old new → (which : Command) → command ≡ Some which
     → IsReady (file_of which) old.files → NoFault old new → UnlessNoMemory s ((s ≡ status.Done) ⊎ (s ≡ status.TooLong))

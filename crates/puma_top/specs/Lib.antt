@@ -1,3 +1,4 @@
+pub mod Control
 pub mod Once
 pub mod OnceSteps
 pub mod Drive

@@ -10,7 +10,7 @@ use Rattle.builder_core.specs.Runs.{StackRuns}
 use Rattle.puma_top.specs.Once.{Site, ServedAll, ServedGiven, ServedPart, ServedLess, ServedLong}
 use Rattle.puma_top.specs.Seen.{SourceSeen, SinkSeen}
 use Rattle.puma_top.specs.declared.status.Status.{Status}
-use Rattle.puma_top.specs.declared.status.Status.TheVariants.{Done, NoMemory, Usage, File, Stack, SourceFault, SinkFault, TooLong}
+use Rattle.puma_top.specs.declared.status.Status.TheVariants.{Done, NoMemory, Usage, File, Stack, SourceFault, SinkFault, TooLong, Dial, NoAnswer, Denied}
 
 -- what serves, by its runner
 abbrev pub site_of : StackRuns App → Bool → Site
@@ -27,6 +27,9 @@ Serves SourceFault site source sink source_then sink_then =
     Rose source.faults source_then.faults × ServedGiven site source_then sink_then
 Serves SinkFault site source sink source_then sink_then = Rose sink.faults sink_then.faults × ServedLess site source_then sink_then
 Serves TooLong site source sink source_then sink_then = ServedLong site source_then sink_then
+Serves Dial site source sink source_then sink_then = ⊥
+Serves NoAnswer site source sink source_then sink_then = ⊥
+Serves (Denied denied) site source sink source_then sink_then = ⊥
 
 -- nobody drains, halts or times this connection
 abbrev pub IsOfOnce : Why → Type 0

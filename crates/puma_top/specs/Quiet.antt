@@ -19,7 +19,7 @@ use Rattle.puma_top.specs.Status.{UnlessNoMemory}
 use Rattle.puma_top.specs.declared.status.FileWhy.{FileWhy}
 use Rattle.puma_top.specs.declared.status.FileWhy.TheVariants.{Absent, Long, Failed}
 use Rattle.puma_top.specs.declared.status.Status.{Status}
-use Rattle.puma_top.specs.declared.status.Status.TheVariants.{Done, NoMemory, Usage, File, Stack, SourceFault, SinkFault, TooLong}
+use Rattle.puma_top.specs.declared.status.Status.TheVariants.{Done, NoMemory, Usage, File, Stack, SourceFault, SinkFault, TooLong, Dial, NoAnswer, Denied}
 
 -- the name of the stack file
 abbrev pub file_of : Command → List ℕ
@@ -97,6 +97,9 @@ OnceDid (Stack line rule) hijack name old new = IsBadStack name line rule old.fi
 OnceDid SourceFault hijack name old new = CutOff hijack name old new
 OnceDid SinkFault hijack name old new = WriteFailed hijack name old new
 OnceDid TooLong hijack name old new = CutShort hijack name old new
+OnceDid Dial hijack name old new = ⊥
+OnceDid NoAnswer hijack name old new = ⊥
+OnceDid (Denied denied) hijack name old new = ⊥
 
 -- the written form of the steps in the file with this name was written
 pub record Printed (name : List ℕ) (old new : FilesSeen) (sink : SinkSeen) : Type 0 where
@@ -128,6 +131,9 @@ CheckDid (Stack line rule) name old new sink sink_then = IsBadStack name line ru
 CheckDid SourceFault name old new sink sink_then = ⊥
 CheckDid SinkFault name old new sink sink_then = Rose sink.faults sink_then.faults × PrintedLess name old new sink_then
 CheckDid TooLong name old new sink sink_then = ⊥
+CheckDid Dial name old new sink sink_then = ⊥
+CheckDid NoAnswer name old new sink sink_then = ⊥
+CheckDid (Denied denied) name old new sink sink_then = ⊥
 
 -- what was done, by the command. Words that are no command are Usage, unless memory was refused
 abbrev pub Did : Status → Option Command → Seen → Seen → Type 0

@@ -10,7 +10,7 @@ use Rattle.builder_core.specs.Plan.{Plan, plan}
 use Rattle.puma_top.specs.Seen.{FileReads, FilesSeen, SinkSeen}
 use Rattle.puma_top.specs.Quiet.{ReadOnce, NotRead, HasRead, IsBadStack}
 use Rattle.puma_top.specs.declared.status.Status.{Status}
-use Rattle.puma_top.specs.declared.status.Status.TheVariants.{Done, NoMemory, Usage, File, Stack, SourceFault, SinkFault, TooLong}
+use Rattle.puma_top.specs.declared.status.Status.TheVariants.{Done, NoMemory, Usage, File, Stack, SourceFault, SinkFault, TooLong, Dial, NoAnswer, Denied}
 
 -- what files show, by what they tell
 abbrev pub files_seen : {F : Type 0} → (F → Option Shelf) → (F → Option FileReads) → (F → ℕ) → F → FilesSeen
@@ -27,6 +27,9 @@ Opens (Err (Stack line rule)) name old new = ⊥
 Opens (Err SourceFault) name old new = ⊥
 Opens (Err SinkFault) name old new = ⊥
 Opens (Err TooLong) name old new = ⊥
+Opens (Err Dial) name old new = ⊥
+Opens (Err NoAnswer) name old new = ⊥
+Opens (Err (Denied denied)) name old new = ⊥
 
 -- the steps that the code read, as data
 abbrev pub plan_read : Result (Steps App) Status → Result (Plan App) Status
@@ -44,6 +47,9 @@ OpensSteps (Err (Stack line rule)) name old new = IsBadStack name line rule old 
 OpensSteps (Err SourceFault) name old new = ⊥
 OpensSteps (Err SinkFault) name old new = ⊥
 OpensSteps (Err TooLong) name old new = ⊥
+OpensSteps (Err Dial) name old new = ⊥
+OpensSteps (Err NoAnswer) name old new = ⊥
+OpensSteps (Err (Denied denied)) name old new = ⊥
 
 -- a front of the text was written
 pub record WroteFront (text : List ℕ) (sink : SinkSeen) : Type 0 where
@@ -62,3 +68,6 @@ Prints (Stack line rule) text old new = ⊥
 Prints SourceFault text old new = ⊥
 Prints SinkFault text old new = Rose old.faults new.faults × ((h : WroteFront text new) × (h.more ≢ []))
 Prints TooLong text old new = ⊥
+Prints Dial text old new = ⊥
+Prints NoAnswer text old new = ⊥
+Prints (Denied denied) text old new = ⊥

@@ -31,6 +31,12 @@ pub enum Status {
     SinkFault,
     /// The connection gave as many bytes as are taken of one: 2^40.
     TooLong,
+    /// The dial of the control server failed, or its link did.
+    Dial,
+    /// The control server gave no reply.
+    NoAnswer,
+    /// The control server's reply had this status, which is not 200.
+    Denied { status: u32 },
 }
 
 impl Status {
@@ -49,6 +55,9 @@ impl Status {
             Status::SourceFault => 6,
             Status::SinkFault => 7,
             Status::TooLong => 9,
+            Status::Dial => 12,
+            Status::NoAnswer => 13,
+            Status::Denied { .. } => 14,
         }
     }
 }

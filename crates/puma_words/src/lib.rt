@@ -2,8 +2,10 @@
 #![tactic(auto)]
 
 mod command;
+mod control;
 mod program;
 #[cfg(test)]
 mod tests;
 
 pub use command::{Command, command_of};
+pub use control::{Control, control_of};

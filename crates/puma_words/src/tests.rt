@@ -1,5 +1,5 @@
 //! What words say which command, as tables; the rows are what a user of any command line expects.
-use crate::{Command, command_of};
+use crate::{Command, Control, command_of, control_of};
 use std::alloc::Global;
 use std::test::Fail;
 
@@ -83,6 +83,46 @@ fn other_words_say_nothing(rt: HostRuntime) -> Result<(), Fail> {
     ];
     for words in rows {
         assert!(rt; says(alloc, words, None)?, "{words:?}");
+    }
+    Ok(())
+}
+
+#[test]
+fn control_has_two_names_and_a_token(rt: HostRuntime) -> Result<(), Fail> {
+    let alloc = rt.alloc();
+    let stop = Some(Control {
+        address: "h:1",
+        token: "t",
+        order: "stop",
+    });
+    for (words, wanted) in [
+        (["control", "h:1", "--token", "t", "stop"].as_slice(), true),
+        (["control", "h:1", "stop", "--token", "t"].as_slice(), true),
+        (["control", "--token=t", "h:1", "stop"].as_slice(), true),
+        (
+            ["control", "--token", "t", "--", "h:1", "stop"].as_slice(),
+            true,
+        ),
+        (["control", "h:1", "stop"].as_slice(), false),
+        (["control", "h:1", "--token", "t"].as_slice(), false),
+        (
+            ["control", "h:1", "--token", "t", "stop", "now"].as_slice(),
+            false,
+        ),
+        (
+            ["control", "h:1", "--token", "t", "--token", "t", "stop"].as_slice(),
+            false,
+        ),
+        (["control", "--help"].as_slice(), false),
+        (["once", "h:1", "--token", "t", "stop"].as_slice(), false),
+        ([].as_slice(), false),
+    ] {
+        let strings = words_of(alloc, words)?;
+        let said = control_of(alloc, strings.as_slice())?;
+        assert!(rt;
+            if wanted { said == stop } else { said == None },
+            "{words:?}"
+        );
     }
     Ok(())
 }

@@ -1,0 +1,9 @@
+pub mod FieldLemmas
+pub mod FoundLemmas
+pub mod HeadLemmas
+pub mod OrderLemmas
+pub mod ReplyLemmas
+pub mod ScanLemmas
+pub mod TalkLemmas
+pub mod WishLemmas
+pub mod WishRequestLemmas
