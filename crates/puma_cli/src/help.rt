@@ -96,10 +96,34 @@ A stack file, of at most 65,536 bytes:\n\
 \x20 Middleware  head, content_length, content_type [TYPE], method_override,\n\
 \x20             set_header NAME VALUE, lint\n\
 \x20 Endpoints   text STATUS TYPE BODY, echo, env, pieces STATUS P.., stream P..,\n\
-\x20             cookies V.., late LENGTH P.., bad N.., raise TEXT\n\
+\x20             cookies V.., late LENGTH P.., bad N.., raise TEXT, take HIJACKER,\n\
+\x20             part STATUS HIJACKER\n\
 \x20 Blocks      map PLACE .. end, cascade .. end (only run lines inside)\n\
+\x20 Hijackers   echo, upper\n\
 \x20 Arguments   \\s is a space, \\n LF, \\r CR, \\\\ a backslash, \\x41 a byte, \\e\n\
 \x20             alone the empty text\n\
+\n\
+Rules of stack files; \"puma: stack line 2 S3\" names the first bad line:\n\
+\x20 S1  bytes: a tab, CR LF, a letter beyond ASCII, or more than 4,096 in a line\n\
+\x20 S2  the first word: use, run, map, cascade or end\n\
+\x20 S3  the name of the middleware or endpoint\n\
+\x20 S4  how many arguments there are: a space in a text is \\s\n\
+\x20 S5  the form of an argument: a place begins with /, a number has its range\n\
+\x20 S6  an end too many or too few, seen at the line behind the last\n\
+\x20 S7  another line than run and end in a cascade\n\
+\x20 S8  no application: a block, or the whole file, has no run\n\
+\x20 S9  more than 256 steps, or deeper than 32\n\
+\n\
+What most often goes wrong:\n\
+\x20 puma: usage       a word is missing, as STACK; or a flag stands before once\n\
+\x20 S1                the file was saved with CR LF, or has a tab\n\
+\x20 S2 to S5          written as a config.ru: Rack::Head, quotes, do, a comment\n\
+\x20                   behind a line. Arguments have no quotes; map /a, not\n\
+\x20                   map \"/a\" do\n\
+\x20 the last line     its LF may be missing, and that is no fault; what is only\n\
+\x20                   seen at the end is told of the line behind it\n\
+\x20 a 500 to each request: L4 is a capital in a header's name, L6 a type with\n\
+\x20                   status 204, 304 or 1xx\n\
 \n\
 Exit statuses, each but 0 with one line on standard error:\n\
 \x20 0  done                         4  a line of the stack file breaks a rule\n\
@@ -111,9 +135,11 @@ Exit statuses, each but 0 with one line on standard error:\n\
 \x20    reached, or its link failed      another status than 200\n\
 \x20 13 the control server gave no\n\
 \x20    reply\n\
+\x20 125 is bin/puma's own: the program could not be built.\n\
 \n\
 Documents, in docs/ of the repository: STACKS.md has the stack file line by\n\
-line and each rule; DEFINITIONS.md has requests, refusals and replies.\n";
+line and each rule; DEFINITIONS.md has requests, refusals and replies;\n\
+TRUST.md says what the proof means.\n";
 
 #[cfg(test)]
 mod tests {
